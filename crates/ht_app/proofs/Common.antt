@@ -10,7 +10,7 @@ pub use Rattle.ht_asked.specs.Asked.{Asked, GenOptions, check, compact, demo, di
 pub use Rattle.ht_asked.specs.Asked.{uninit, words_of}
 pub use Rattle.ht_bench.proofs.OneLaws.{one_circuit}
 pub use Rattle.ht_bench.specs.Text.{IsNetlistOf, max_netlist_bytes}
-pub use Rattle.ht_collapse.specs.Classes.{AreClasses}
+pub use Rattle.ht_faults.specs.Classes.{AreClasses}
 pub use Rattle.ht_demo.specs.Demo.{demo_netlist}
 pub use Rattle.ht_dictionary.specs.ObservationView.{ObservationView}
 pub use Rattle.ht_engine.specs.EngineStands.{EngineStandsFor, EngineView, HasSameWork, Makes, remaining}

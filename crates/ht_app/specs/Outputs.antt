@@ -9,7 +9,7 @@ use Rattle.ht_texts.specs.Lines.{with_lf}
 use Rattle.ht_texts.specs.Reports.{head_line, report_text, report_sums, total_line}
 use Rattle.ht_entries.specs.ProofLines.{line_text}
 use Rattle.ht_entries.specs.declared.proof_line.ProofLine.TheVariants.{End}
-use Rattle.ht_collapse.specs.Classes.{AreClasses, fault_at}
+use Rattle.ht_faults.specs.Classes.{AreClasses, fault_at}
 use Rattle.ht_valid.specs.ValidFiles.{IsJustified}
 use Rattle.ht_texts.specs.SearchReports.{IsReportText}
 use Rattle.ht_valid.specs.TrueVerdicts.{AreDecided, HaveTrueVerdicts, IsWorkedOn}
@@ -37,7 +37,7 @@ use Rattle.ht_inputs.specs.Inputs.{IsListed, JobBasis}
 use Rattle.ht_net.specs.declared.fault.Fault.{Fault}
 use Rattle.ht_net.specs.declared.place.Place.{Place}
 use Rattle.ht_net.specs.Netlist.{Netlist}
-use Rattle.ht_grade.specs.Detections.{AreFirstDetections}
+use Rattle.ht_proofs.specs.Detections.{AreFirstDetections}
 use Rattle.ht_texts.specs.declared.said.Said.{Said}
 use Rattle.ht_texts.specs.Verdicts.{saids_of}
 use Rattle.ht_texts.specs.Tests.{test_text}

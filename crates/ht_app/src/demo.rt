@@ -2,7 +2,7 @@
 ghost use Rattle.std.specs.Prelude.{◌≡◌, ◌≤◌, ◌∷◌, [], List, IfOk, OnOk};
 ghost use Rattle.ht_ports.specs.declared.ports.OutPort.TheVariants as out_port;
 ghost use Rattle.ht_faults.specs.Sites.{faults_of};
-ghost use Rattle.ht_collapse.specs.Classes.{AreClasses};
+ghost use Rattle.ht_faults.specs.Classes.{AreClasses};
 ghost use Rattle.ht_demo.specs.Demo.{demo_netlist};
 ghost use Rattle.ht_engine.specs.declared.step.Step as made;
 ghost use Rattle.ht_engine.specs.EngineStands.{EngineStandsFor, HasSameWork};

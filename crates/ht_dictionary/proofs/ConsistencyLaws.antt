@@ -11,8 +11,8 @@ use Rattle.ht_net.specs.Netlist.{Netlist, IsCircuit}
 use Rattle.ht_net.specs.Detection.{terns_of, unknown_state, tern_outputs, output_at, IsBefore, IsState, bit_at}
 use Rattle.ht_net.proofs.ApartLaws.{output_stands, unknown_allows}
 use Rattle.ht_faults.specs.Sites.{faults_of}
-use Rattle.ht_collapse.specs.Classes.{AreClasses, fault_at}
-use Rattle.ht_collapse.proofs.RunLaws.{tern_members_alike}
+use Rattle.ht_faults.specs.Classes.{AreClasses, fault_at}
+use Rattle.ht_faults.proofs.RunLaws.{tern_members_alike}
 use Rattle.ht_serial.specs.Opposites.{IsOppositeAt}
 use Rattle.ht_dictionary.specs.Contradictions.{observed_at, Contradicts, IsFirstContradiction, Explains}
 use Rattle.ht_dictionary.proofs.ContradictionLaws.{contradiction_within}

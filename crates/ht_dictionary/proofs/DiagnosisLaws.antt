@@ -8,7 +8,7 @@ use Rattle.ht_tern.specs.declared.tern.Tern.{Tern}
 use Rattle.ht_net.specs.declared.place.Place.{Place}
 use Rattle.ht_net.specs.Netlist.{Netlist}
 use Rattle.ht_net.specs.Detection.{IsPlace}
-use Rattle.ht_collapse.specs.Classes.{fault_at, is_representative}
+use Rattle.ht_faults.specs.Classes.{fault_at, is_representative}
 use Rattle.ht_dictionary.specs.Contradictions.{IsFirstContradiction}
 use Rattle.ht_dictionary.specs.Diagnoses.{contradiction_at}
 

@@ -9,9 +9,9 @@ use Rattle.ht_net.specs.Detection.{IsStart, Allows, outputs_from, terns_of}
 use Rattle.ht_net.proofs.ApartLaws.{output_stands}
 use Rattle.ht_net.proofs.SilenceLaws.{some_allowed}
 use Rattle.ht_faults.specs.Sites.{faults_of}
-use Rattle.ht_collapse.specs.Classes.{AreClasses, fault_at}
-use Rattle.ht_collapse.proofs.ClassLaws.{own_representative}
-use Rattle.ht_collapse.proofs.RunLaws.{tern_members_alike}
+use Rattle.ht_faults.specs.Classes.{AreClasses, fault_at}
+use Rattle.ht_faults.proofs.ClassLaws.{own_representative}
+use Rattle.ht_faults.proofs.RunLaws.{tern_members_alike}
 use Rattle.ht_dictionary.specs.Contradictions.{Contradicts, IsFirstContradiction}
 use Rattle.ht_dictionary.specs.Diagnoses.{Diagnoses, contradiction_at}
 use Rattle.ht_dictionary.specs.DiagnosisView.{DiagnosisView}

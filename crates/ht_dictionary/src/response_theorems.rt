@@ -8,7 +8,7 @@ ghost use Rattle.ht_net.specs.declared.fault.Fault.{Fault};
 ghost use Rattle.ht_net.specs.Netlist.{Netlist, IsCircuit};
 ghost use Rattle.ht_net.specs.Detection.{IsStart, outputs_from};
 ghost use Rattle.ht_faults.specs.Sites.{faults_of};
-ghost use Rattle.ht_collapse.specs.Classes.{AreClasses, fault_at};
+ghost use Rattle.ht_faults.specs.Classes.{AreClasses, fault_at};
 ghost use Rattle.ht_dictionary.specs.Contradictions.{IsFirstContradiction};
 ghost use Rattle.ht_dictionary.specs.Diagnoses.{Diagnoses, contradiction_at};
 ghost use Rattle.ht_dictionary.specs.DiagnosisView.{DiagnosisView};

@@ -7,7 +7,7 @@ ghost use Rattle.ht_net.specs.declared.place.Place.{Place};
 ghost use Rattle.ht_net.specs.Netlist.{Netlist, IsCircuit};
 ghost use Rattle.ht_net.specs.Detection.{tern_outputs, IsFirstDetection, IsState};
 ghost use Rattle.ht_faults.specs.Sites.{faults_of};
-ghost use Rattle.ht_collapse.specs.Classes.{AreClasses, fault_at};
+ghost use Rattle.ht_faults.specs.Classes.{AreClasses, fault_at};
 ghost use Rattle.ht_texts.specs.Tests.{IsTooLong};
 ghost use Rattle.ht_dictionary.specs.Contradictions.{Explains, IsFirstContradiction};
 ghost use Rattle.ht_dictionary.specs.ResponseTexts.{AreFirstRows, IsWrongResponse};

@@ -5,7 +5,7 @@ use Rattle.std.proofs.lemmas.Bool.{cases_eq, cases_lt, false≢true}
 use Rattle.std.proofs.lemmas.List.{get_or-replicate, get_or-set_other, get_or-set_same, get_or_past, length-replicate, take_more}
 use Rattle.std.proofs.lemmas.List.Elements.{Contains-append_cases, Contains-append_left, Contains-append_right}
 use Rattle.ht_net.specs.Netlist.{Netlist}
-use Rattle.ht_collapse.specs.Classes.{AreClasses}
+use Rattle.ht_faults.specs.Classes.{AreClasses}
 use Rattle.ht_engine.specs.declared.settings.Settings.{Settings}
 use Rattle.ht_engine.specs.Marks.{AreListedNumbers, AreMarks, MarksAny}
 use Rattle.ht_engine.specs.Steps.{AnyInClass, IsInClass}

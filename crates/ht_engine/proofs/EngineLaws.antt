@@ -17,8 +17,8 @@ use Rattle.ht_net.proofs.FrameLaws.{le_or_lt}
 use Rattle.ht_net.proofs.MoreToldLaws.{state_is_start}
 use Rattle.ht_net.proofs.SilenceLaws.{some_allowed}
 use Rattle.ht_faults.specs.FaultList.{no_fault}
-use Rattle.ht_collapse.specs.Classes.{fault_at}
-use Rattle.ht_grade.specs.GraderView.{GraderView}
+use Rattle.ht_faults.specs.Classes.{fault_at}
+use Rattle.ht_proofs.specs.GraderView.{GraderView}
 use Rattle.ht_tree.specs.declared.entry.Entry as recorded
 use Rattle.ht_tree.specs.declared.entry.Entry.TheVariants as entries
 use Rattle.ht_tree.specs.declared.kind.EntryKind.{EntryKind}

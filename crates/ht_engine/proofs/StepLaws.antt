@@ -9,7 +9,7 @@ use Rattle.std.proofs.lemmas.List.Elements.{All-append, All-cons, All-head, All-
 use Rattle.ht_net.specs.Netlist.{Netlist}
 use Rattle.ht_net.specs.Rows.{Rows}
 use Rattle.ht_net.specs.Detection.{IsFirstFrom}
-use Rattle.ht_collapse.specs.Classes.{fault_at}
+use Rattle.ht_faults.specs.Classes.{fault_at}
 use Rattle.ht_tree.specs.declared.entry.Entry as recorded
 use Rattle.ht_tree.specs.Rising.{Rises}
 use Rattle.ht_entries.specs.declared.numbered.Numbered.{Numbered}

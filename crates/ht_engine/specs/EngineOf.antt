@@ -3,8 +3,8 @@ use Rattle.std.specs.Prelude.{◌≡◌, ◌≤◌, List, Bool, length}
 use Rattle.ht_net.specs.declared.fault.Fault.{Fault}
 use Rattle.ht_net.specs.Detection.{IsStart}
 use Rattle.ht_faults.specs.Sites.{faults_of}
-use Rattle.ht_collapse.specs.Classes.{AreClasses}
-use Rattle.ht_grade.specs.GraderView.{GraderView}
+use Rattle.ht_faults.specs.Classes.{AreClasses}
+use Rattle.ht_proofs.specs.GraderView.{GraderView}
 use Rattle.ht_texts.specs.SearchReports.{IsBudget}
 use Rattle.ht_engine.specs.declared.engine.Engine.TheInside.{Inside}
 use Rattle.ht_engine.specs.EngineStands.{EngineView}

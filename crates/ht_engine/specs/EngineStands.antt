@@ -4,7 +4,7 @@ use Rattle.std.specs.List.{All, Contains}
 use Rattle.ht_tern.specs.declared.tern.Tern.{Tern}
 use Rattle.ht_net.specs.Netlist.{Netlist}
 use Rattle.ht_net.specs.Detection.{DetectsFrom, IsFirstFrom, IsStart}
-use Rattle.ht_collapse.specs.Classes.{fault_at}
+use Rattle.ht_faults.specs.Classes.{fault_at}
 use Rattle.ht_tree.specs.Entries.{AllowsEntry, Passes, kind_of}
 use Rattle.ht_tree.specs.Reached.{AreVectors}
 use Rattle.ht_texts.specs.declared.said.Said.{Said}

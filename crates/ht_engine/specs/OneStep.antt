@@ -2,7 +2,7 @@
 use Rattle.std.specs.Prelude.{◌≡◌, ◌⊎◌, ◌<◌, ◌≤◌, ◌+◌, ◌∷◌, ◌++◌, ℕ, List, [], Bool, Option, Some, None, length, slice_set}
 use Rattle.ht_net.specs.Detection.{IsFirstFrom}
 use Rattle.ht_net.specs.Rows.{Rows}
-use Rattle.ht_collapse.specs.Classes.{fault_at}
+use Rattle.ht_faults.specs.Classes.{fault_at}
 use Rattle.ht_texts.specs.declared.said.Said.{Said}
 use Rattle.ht_texts.specs.declared.said.Said.TheVariants as said
 use Rattle.ht_tree.specs.declared.entry.Entry as recorded

@@ -6,7 +6,7 @@ use Rattle.std.specs.Option.{ForSome}
 use Rattle.ht_net.specs.Netlist.{Netlist}
 use Rattle.ht_net.specs.Rows.{Rows}
 use Rattle.ht_net.specs.Detection.{IsFirstFrom}
-use Rattle.ht_collapse.specs.Classes.{fault_at}
+use Rattle.ht_faults.specs.Classes.{fault_at}
 use Rattle.ht_entries.specs.declared.numbered.Numbered.{Numbered}
 use Rattle.ht_valid.specs.ValidFiles.{HasEntry, IsOwn}
 use Rattle.ht_invariant.specs.declared.finding.Invariant.{Invariant}

@@ -4,7 +4,7 @@ ghost use Rattle.ht_engine.specs.Marks.{AreMarks, AreListedNumbers, MarksAny};
 ghost use Rattle.ht_engine.specs.Steps.{IsInClass};
 
 use crate::settings::Settings;
-use ht_collapse::Classes;
+use ht_faults::Classes;
 use std::alloc::{AllocError, Global};
 
 /// Marks the representatives that are to be worked on, by number from 0: those of the chosen faults, or all where no

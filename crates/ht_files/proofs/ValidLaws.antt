@@ -5,7 +5,7 @@ use Rattle.std.proofs.lemmas.List.Elements.{All-contains}
 use Rattle.ht_net.specs.declared.fault.Fault.{Fault}
 use Rattle.ht_net.specs.Netlist.{IsCircuit, Netlist}
 use Rattle.ht_faults.specs.Sites.{faults_of}
-use Rattle.ht_collapse.specs.Classes.{AreClasses, fault_at}
+use Rattle.ht_faults.specs.Classes.{AreClasses, fault_at}
 use Rattle.ht_bench.proofs.AllLaws.{all_from}
 use Rattle.ht_ports.specs.LineRule.{max_text_bytes}
 use Rattle.ht_tree.specs.declared.entry.Entry.{Entry}

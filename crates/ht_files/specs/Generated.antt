@@ -1,7 +1,7 @@
 -- The headline: what the three files and the total line of a finished run say, and that it is true.
 use Rattle.std.specs.Prelude.{◌≡◌, ◌≤◌, ℕ, List, Bool, Some}
 use Rattle.ht_net.specs.Netlist.{Netlist}
-use Rattle.ht_collapse.specs.Classes.{AreClasses, fault_at}
+use Rattle.ht_faults.specs.Classes.{AreClasses, fault_at}
 use Rattle.ht_tree.specs.declared.clause.Clause.{Clause}
 use Rattle.ht_tree.specs.Budgets.{refutation_cost}
 use Rattle.ht_tree.specs.Clauses.{literals_of_each}

@@ -2,7 +2,7 @@
 ghost use Rattle.std.specs.Prelude.{◌≡◌, ◌++◌, ◌∷◌, [], ℕ, List};
 ghost use Rattle.ht_net.specs.Netlist.{Netlist, IsCircuit};
 ghost use Rattle.ht_bench.specs.Text.{IsNetlistOf};
-ghost use Rattle.ht_collapse.specs.Classes.{AreClasses};
+ghost use Rattle.ht_faults.specs.Classes.{AreClasses};
 ghost use Rattle.ht_texts.specs.Lines.{with_lf};
 ghost use Rattle.ht_texts.specs.SearchReports.{HasPlainNames, HasShortNames};
 ghost use Rattle.ht_entries.specs.declared.proof_line.ProofLine.TheVariants as line;

@@ -15,7 +15,7 @@ use Rattle.ht_texts.proofs.FaultListLaws.{fault_list_or_malformed}
 use Rattle.ht_texts.proofs.ReaderLaws.{lines_few}
 use Rattle.ht_texts.proofs.StartLaws.{start_or_malformed}
 use Rattle.ht_texts.proofs.TestLaws.{never_both, one_list}
-use Rattle.ht_collapse.proofs.ClassLaws.{one_list as one_classes}
+use Rattle.ht_faults.proofs.ClassLaws.{one_list as one_classes}
 use Rattle.ht_compact.proofs.FirstVectorLaws.{few_or_many, malformed_or_many}
 use Rattle.ht_dictionary.proofs.ResponseLaws.{never_both as never_responses}
 use Rattle.ht_valid.specs.FirstTrouble.{AreReadTo, IsFirstTrouble, IsFirstUnjustified}
@@ -75,7 +75,7 @@ start_is : (name : Option (List ℕ)) (texts : InPort → List ℕ) (basis : Job
     → ((n : List ℕ) → name ≡ Some n → IsStartText (length basis.circuit.dffs) (texts Extra) basis.content.start)
     → start ≡ basis.content.start
 start_is (Some n) texts basis start is stated says =
-    (start_or_malformed (length basis.circuit.dffs) (texts Extra)).one_start start basis.content.start is (says n refl)
+    (start_or_malformed (length basis.circuit.dffs) (texts Extra)).one_value start basis.content.start is (says n refl)
 start_is None texts basis start is stated says = is ∙ sym (stated refl)
 
 -- files that a judge denies for each circuit, classes and start that their texts say are denied for those of the basis

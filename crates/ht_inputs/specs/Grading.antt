@@ -8,8 +8,8 @@ use Rattle.ht_net.specs.Netlist as net
 use Rattle.ht_net.specs.Netlist.{IsCircuit}
 use Rattle.ht_net.specs.Detection.{IsStart}
 use Rattle.ht_faults.specs.Sites.{faults_of}
-use Rattle.ht_collapse.specs.Classes.{AreClasses}
-use Rattle.ht_grade.specs.Detections.{AreFirstDetections}
+use Rattle.ht_faults.specs.Classes.{AreClasses}
+use Rattle.ht_proofs.specs.Detections.{AreFirstDetections}
 use Rattle.ht_texts.specs.Tests.{IsTestText}
 use Rattle.ht_valid.specs.ValidFiles.{Content}
 use Rattle.ht_valid.specs.declared.trouble.Trouble.TheVariants as trouble

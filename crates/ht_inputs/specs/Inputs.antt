@@ -16,7 +16,7 @@ use Rattle.ht_entries.specs.EntryTexts.{IsProofText}
 use Rattle.ht_compact.specs.TestsToCompact.{IsTestTextToCompact}
 use Rattle.ht_dictionary.specs.ResponseTexts.{IsResponseText}
 use Rattle.ht_faults.specs.Sites.{faults_of}
-use Rattle.ht_collapse.specs.Classes.{AreClasses}
+use Rattle.ht_faults.specs.Classes.{AreClasses}
 use Rattle.ht_valid.specs.ValidFiles.{AgreesWithTests, Content, IsJustified, IsOwn}
 use Rattle.ht_asked.specs.Asked as asked
 use Rattle.ht_asked.specs.Asked.{Asked, check, compact, diagnose, respond}

@@ -40,7 +40,7 @@ impl<'c, 'k> Problem for ClauseTrial<'c, 'k> {
 
     ghost subject = { λ s. clause_window s.window.window s.sought s.clauses.now };
 
-    ghost guide = { λ s. guide_under (clause_window s.window.window s.sought s.clauses.now) };
+    ghost guide = { guide_under };
 
     ghost route = { λ s. route_of (steps_under [] s.window.decisions) };
 

@@ -1,6 +1,6 @@
 -- What the calls that a line of proofs makes find: of the entry that it ends, and of the entries that are due with it.
 use Rattle.std.specs.Prelude.{◌≡◌, ◌≢◌, ◌<◌, ◌≤◌, ◌+◌, ◌-◌, ℕ, List, [], Bool, true, false, length, min, Option, Some, None, Result, Ok, Err, IsOk}
-use Rattle.ht_collapse.specs.Classes.{is_representative}
+use Rattle.ht_faults.specs.Classes.{is_representative}
 use Rattle.ht_texts.specs.declared.said.Said.{Said}
 use Rattle.ht_texts.specs.declared.said.Said.TheVariants.{Detected}
 use Rattle.ht_texts.specs.Verdicts.{said_at}

@@ -3,7 +3,7 @@ use Rattle.std.specs.Prelude.{◌≡◌, ◌⊎◌, ◌<◌, ◌+◌, ◌++◌, 
 use Rattle.ht_tern.specs.declared.tern.Tern.{Tern}
 use Rattle.ht_net.specs.declared.place.Place.{Place}
 use Rattle.ht_net.specs.Netlist.{Netlist}
-use Rattle.ht_collapse.specs.Classes.{is_representative}
+use Rattle.ht_faults.specs.Classes.{is_representative}
 use Rattle.ht_texts.specs.declared.item.Item.{Item}
 use Rattle.ht_texts.specs.declared.item.Item.TheVariants.{Head, Verdict, Member, Total}
 use Rattle.ht_texts.specs.declared.said.Said.{Said}
@@ -13,7 +13,7 @@ use Rattle.ht_texts.specs.Verdicts.{said_at}
 use Rattle.ht_texts.specs.SearchReports.{IsReportFront, IsSearchReport}
 use Rattle.ht_texts.specs.ReportReading.{ReportReading, before_report, in_report, after_report, ReportReadsTo}
 use Rattle.ht_texts.specs.ReportStands.{sums_read}
-use Rattle.ht_grade.specs.Detections.{AreFirstDetections, place_at}
+use Rattle.ht_proofs.specs.Detections.{AreFirstDetections, place_at}
 use Rattle.ht_valid.specs.ValidFiles.{AgreesWithTests, IsOwn}
 use Rattle.ht_valid.specs.FirstTrouble.{ContradictsTests}
 use Rattle.ht_valid.specs.declared.trouble.Trouble.TheVariants.{Report}

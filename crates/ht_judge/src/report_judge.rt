@@ -2,16 +2,15 @@
 ghost use Rattle.std.specs.Prelude.{◌≡◌, ◌↔◌, ◌++◌, [], true, List, Bool, ℕ, length, IsTrue, IfOk, IfErr, OnOk};
 ghost use Rattle.ht_tern.specs.declared.tern.Tern as tern;
 ghost use Rattle.ht_faults.specs.Sites.{faults_of};
-ghost use Rattle.ht_collapse.specs.Classes.{AreClasses};
-ghost use Rattle.ht_grade.specs.Detections.{AreFirstDetections, place_at};
+ghost use Rattle.ht_faults.specs.Classes.{AreClasses};
+ghost use Rattle.ht_proofs.specs.Detections.{AreFirstDetections, place_at};
 ghost use Rattle.ht_texts.specs.SearchReports.{IsBudget};
 ghost use Rattle.ht_valid.specs.declared.trouble.Trouble.TheVariants as trouble;
 ghost use Rattle.ht_judge.specs.declared.judge_error.JudgeError.TheVariants as error;
 ghost use Rattle.ht_judge.specs.ReportJudging.{AgreesWithPlace, AgreesWithPlaces, budget_with, saids_in, JudgesReport, ReportJudged, IsTrueReport, ReportEndHasCause};
 
 use crate::judge_error::JudgeError;
-use ht_collapse::Classes;
-use ht_faults::FaultList;
+use ht_faults::{Classes, FaultList};
 use ht_net::{Circuit, Place};
 use ht_texts::{Item, ReportReader, Said};
 use ht_valid::Trouble;

@@ -19,7 +19,7 @@ impl<'c, 's> Problem for BackWindows<'c, 's> {
 
     ghost subject = { λ s. s.first };
 
-    ghost guide = { λ s. guide_of s.first };
+    ghost guide = { guide_of };
 
     ghost route = { λ s. route_of (steps_under s.above s.decisions) };
 

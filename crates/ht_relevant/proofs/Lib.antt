@@ -4,4 +4,9 @@ pub mod RelevantLaws
 pub mod PartLaws
 pub mod PartWindowLaws
 pub mod WalkPartLaws
+pub mod DistanceLaws
+pub mod SpreadLaws
+pub mod PutLaws
+pub mod TakenLaws
+pub mod DriverLaws
 pub mod NearLaws

@@ -1,8 +1,8 @@
 -- What is marked where a difference may show, and what is read there, is what matters.
-use Rattle.std.proofs.Common.{◌≡◌, ◌<◌, ◌+◌, ◌⊎◌, ℕ, suc, List, [], Bool, true, false, Some, length, get_or, sym, ◌∙◌, ap, inl, inr, arith}
+use Rattle.std.proofs.Common.{◌≡◌, ◌<◌, ◌⊎◌, ℕ, Bool, true, false, Some, length, get_or, sym, ◌∙◌, ap, inl, inr}
 use Rattle.std.proofs.lemmas.Bool.{false≢true, false_from_ne_true}
 use Rattle.ht_net.specs.declared.fault.Fault.{Fault}
-use Rattle.ht_net.specs.Netlist.{Netlist, first_gate_net, arg_at, no_net}
+use Rattle.ht_net.specs.Netlist.{no_net}
 use Rattle.ht_net.specs.Faults.{is_data_pin}
 use Rattle.ht_tree.specs.Windows.{SearchWindow, IsWindow}
 use Rattle.ht_relevant.specs.Reached.{IsReach}

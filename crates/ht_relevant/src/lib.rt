@@ -8,11 +8,21 @@
 //! | File | Holds |
 //! |---|---|
 //! | relevant | which nets matter |
-//! | find | how they are found |
+//! | find | how they are found: back from the places in reach |
+//! | away | how many frames a fault needs to reach each net |
+//! | spread, follow | a search in breadth over nets, by frames of distance |
+//! | distances, way | the numbers that it finds, and which way it goes |
+//! | flags | flip-flops that are marked |
 #![tactic(auto)]
 
+mod away;
+mod distances;
 mod find;
+mod flags;
+mod follow;
 mod relevant;
+mod spread;
+mod way;
 
 pub use find::find_relevant;
 pub use relevant::Relevant;

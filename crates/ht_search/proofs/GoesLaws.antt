@@ -17,7 +17,7 @@ use Rattle.ht_search.specs.declared.progress.SearchProgress.{SearchProgress}
 use Rattle.ht_search.specs.Legal.{MayDecide}
 use Rattle.ht_search.specs.Routes.{Route, stops, back_to, Stands, MovesOn}
 use Rattle.ht_search.specs.Progressed.{IsStack, IsWalked, IsPaid, GoesOn, IsFinished}
-use Rattle.ht_search.proofs.RouteLaws.{back_moved, route_same, stands_by}
+use Rattle.ht_search.proofs.RouteLaws.{back_moved, route_same}
 use Rattle.ht_search.proofs.LegalLaws.{may_two, may_three}
 use Rattle.ht_search.proofs.WaitLaws.{IsNext, top_is, start_stands, two_stack, three_stack, before_stack, next_is, last_is}
 

@@ -39,12 +39,11 @@ pub fn search<P: Problem>(
     requires unit { 0 < unit }
     requires start { (P.route problem.old).here.node ≡ root }
     ensures subject { P.subject problem.new ≡ P.subject problem.old }
-    ensures guide { P.guide problem.new ≡ P.guide problem.old }
     ensures outcome { IfOk result
-        (IsOutcome (P.guide problem.old) budget unit (P.route problem.new).here.node) }
+        (IsOutcome (P.guide (P.subject problem.old)) budget unit (P.route problem.new).here.node) }
     ensures closed { IfOk result
         (λ outcome. IsClosed outcome → P.route problem.new ≡ P.route problem.old) }
-    ensures enough { (left : Node → ℕ) → Measures (P.guide problem.old).judge left
+    ensures enough { (left : Node → ℕ) → Measures (P.guide (P.subject problem.old)).judge left
         → most_tokens (left root) * unit ≤ budget → IfOk result (λ outcome. ¬ IsSpent outcome) }
     ensures back { OnOk result
         (back_to (stops (P.route problem.new)) (P.route problem.old).here.point

@@ -25,21 +25,21 @@ pub trait Problem {
 
     ghost subject: { Self → Subject };
 
-    /// How the nodes are judged and which variable is chosen at each. No call changes it.
-    ghost guide: { Self → Guide };
+    /// How its nodes are judged, and which variable is chosen at each.
+    ghost guide: { Subject → Guide };
 
     /// The node now with its point, and the ones before each decision and each `Before` of its path.
     ghost route: { Self → Route };
 
     /// What the decisions make of the window now.
     fn status(&self) -> Status3
-        ensures { result ≡ (guide self.now).judge.status (route self.now).here.node };
+        ensures { result ≡ (guide (subject self.now)).judge.status (route self.now).here.node };
 
     /// The variable that is decided next.
     fn pick(&self) -> Choice
-        requires { (guide self.now).judge.status (route self.now).here.node ≡ Status3.Open }
-        ensures chosen { result ≡ (guide self.now).choice (route self.now).here.node }
-        ensures fits { Fits (guide self.now).judge (route self.now).here.node
+        requires { (guide (subject self.now)).judge.status (route self.now).here.node ≡ Status3.Open }
+        ensures chosen { result ≡ (guide (subject self.now)).choice (route self.now).here.node }
+        ensures fits { Fits (guide (subject self.now)).judge (route self.now).here.node
             (deciding_token result) };
 
     /// Decides a variable.
@@ -47,9 +47,8 @@ pub trait Problem {
     /// # Errors
     /// Out of memory; the problem stands as before.
     fn decide(&mut self, var: u32, value: Tern) -> Result<(), AllocError>
-        requires { MayDecide (guide self.old).judge (route self.old).here.node var value }
+        requires { MayDecide (guide (subject self.old)).judge (route self.old).here.node var value }
         ensures subject { subject self.new ≡ subject self.old }
-        ensures guide { guide self.new ≡ guide self.old }
         ensures ok { OnOk result (MovesOn (route self.old) (route self.new)
             (decide (route self.old).here.node var value)) }
         ensures err { OnErr result (route self.new ≡ route self.old) };
@@ -59,11 +58,10 @@ pub trait Problem {
     /// # Errors
     /// Out of memory; the problem stands as before.
     fn deeper(&mut self) -> Result<bool, AllocError>
-        requires { (guide self.old).judge.status (route self.old).here.node ≡ Status3.Sure }
+        requires { (guide (subject self.old)).judge.status (route self.old).here.node ≡ Status3.Sure }
         ensures subject { subject self.new ≡ subject self.old }
-        ensures guide { guide self.new ≡ guide self.old }
         ensures told { IfOk result
-            (λ deeper. deeper ≡ (guide self.old).judge.before (route self.old).here.node) }
+            (λ deeper. deeper ≡ (guide (subject self.old)).judge.before (route self.old).here.node) }
         ensures more { IfOk result (λ deeper. deeper ≡ true
             → MovesOn (route self.old) (route self.new) (under (route self.old).here.node)) }
         ensures last { IfOk result (λ deeper. deeper ≡ false → route self.new ≡ route self.old) }
@@ -77,10 +75,9 @@ pub trait Problem {
     fn undo(&mut self, point: Point)
         requires { Stands (route self.old) point }
         ensures subject { subject self.new ≡ subject self.old }
-        ensures guide { guide self.new ≡ guide self.old }
         ensures route { stops (route self.new) ≡ back_to (stops (route self.old)) point };
 
     /// So many windows at most stand one under the other.
     ghost shallow: { (s : Self) → (most : ℕ)
-        × ((n : Node) → IsTrue ((guide s).judge.before n) → length n.windows < most) };
+        × ((n : Node) → IsTrue ((guide (subject s)).judge.before n) → length n.windows < most) };
 }

@@ -27,14 +27,13 @@ fn branch<P: Problem>(
     progress: &mut SearchProgress,
     unit: u64,
 ) -> Result<(), AllocError>
-    requires open { (P.guide problem.old).judge.status (P.route problem.old).here.node
+    requires open { (P.guide (P.subject problem.old)).judge.status (P.route problem.old).here.node
         ≡ Status3.Open }
     requires room { unit ≤ progress.old.left }
     ensures subject { P.subject problem.new ≡ P.subject problem.old }
-    ensures guide { P.guide problem.new ≡ P.guide problem.old }
     ensures goes { OnOk result
-        ((start : Point) → IsWalked (P.guide problem.old) start (P.route problem.old) progress.old
-        → GoesOn (P.guide problem.old) start unit (P.route problem.old) (P.route problem.new)
+        ((start : Point) → IsWalked (P.guide (P.subject problem.old)) start (P.route problem.old) progress.old
+        → GoesOn (P.guide (P.subject problem.old)) start unit (P.route problem.old) (P.route problem.new)
         progress.old progress.new) }
 {
     let point = problem.mark();
@@ -61,18 +60,17 @@ fn go_back<P: Problem>(
     start: Point,
     unit: u64,
 ) -> Result<bool, AllocError>
-    requires dead { (P.guide problem.old).judge.status (P.route problem.old).here.node
+    requires dead { (P.guide (P.subject problem.old)).judge.status (P.route problem.old).here.node
         ≡ Status3.Dead }
     requires room { unit ≤ progress.old.left }
-    requires walked { IsWalked (P.guide problem.old) start (P.route problem.old) progress.old }
+    requires walked { IsWalked (P.guide (P.subject problem.old)) start (P.route problem.old) progress.old }
     ensures subject { P.subject problem.new ≡ P.subject problem.old }
-    ensures guide { P.guide problem.new ≡ P.guide problem.old }
     ensures goes { IfOk result (λ goes. goes ≡ true
-        → GoesOn (P.guide problem.old) start unit (P.route problem.old) (P.route problem.new)
+        → GoesOn (P.guide (P.subject problem.old)) start unit (P.route problem.old) (P.route problem.new)
         progress.old progress.new) }
     ensures finished { IfOk result (λ goes. goes ≡ false
         → (P.route problem.new ≡ P.route problem.old)
-        × IsFinished (P.guide problem.old) unit progress.old progress.new) }
+        × IsFinished (P.guide (P.subject problem.old)) unit progress.old progress.new) }
 {
     progress.write(Token::Dead, unit)?;
     match progress.untried.pop() {
@@ -95,10 +93,9 @@ pub fn step<P: Problem>(
     start: Point,
     unit: u64,
 ) -> Result<StepAnswer, AllocError>
-    requires { IsWalked (P.guide problem.old) start (P.route problem.old) progress.old }
+    requires { IsWalked (P.guide (P.subject problem.old)) start (P.route problem.old) progress.old }
     ensures subject { P.subject problem.new ≡ P.subject problem.old }
-    ensures guide { P.guide problem.new ≡ P.guide problem.old }
-    ensures next { IfOk result (StepsTo (P.guide problem.old) start unit (P.route problem.old)
+    ensures next { IfOk result (StepsTo (P.guide (P.subject problem.old)) start unit (P.route problem.old)
         (P.route problem.new) progress.old progress.new) }
 {
     match problem.status() {

@@ -102,7 +102,7 @@ impl<'c> Problem for SyncTrial<'c> {
 
     ghost subject = { λ s. s.window.window };
 
-    ghost guide = { λ s. guide_to (sync_goal s.window.window) };
+    ghost guide = { λ w. guide_to (sync_goal w) };
 
     ghost route = { λ s. route_of (steps_under [] s.window.decisions) };
 

@@ -5,7 +5,7 @@ use Rattle.ht_net.specs.declared.fault.Site.TheVariants.{Stem, DffPin, GatePin}
 use Rattle.ht_net.specs.Netlist.{Netlist}
 use Rattle.ht_faults.specs.Sites.{IsFaultSite, faults_of}
 use Rattle.ht_faults.proofs.MemberLaws.{fault_site}
-use Rattle.ht_collapse.specs.Classes.{fault_at}
+use Rattle.ht_faults.specs.Classes.{fault_at}
 use Rattle.ht_texts.specs.Sites.{IsSite}
 
 fault_site_is_line : (c : Netlist) (site : Site) → IsFaultSite c site → IsSite c site

@@ -2,8 +2,8 @@
 use Rattle.std.proofs.Common.{◌≡◌, ◌==◌, inl, inr, ◌<◌, ◌+◌, ℕ, zero, suc, List, [], ◌∷◌, ◌++◌, Bool, true, false, length, get_or, length-append, refl, sym, ap, ◌∙◌, subst, arith}
 use Rattle.std.proofs.lemmas.Bool.{cases_eq, eq-eqb, eqb-true, eqb-false}
 use Rattle.std.proofs.lemmas.List.Sums.{sum_by_push}
-use Rattle.ht_collapse.specs.Classes.{is_representative}
-use Rattle.ht_collapse.proofs.OwnLaws.{own_more, own_same}
+use Rattle.ht_faults.specs.Classes.{is_representative}
+use Rattle.ht_faults.proofs.OwnLaws.{own_more, own_same}
 use Rattle.ht_texts.specs.declared.said.Said.{Said}
 use Rattle.ht_texts.specs.declared.total.Sums.{Sums}
 use Rattle.ht_texts.specs.Verdicts.{said_at, kind_number, says_detected, says_untestable, says_undetectable, says_aborted, says_undetected}

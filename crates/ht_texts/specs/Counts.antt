@@ -1,7 +1,7 @@
 -- How many classes there are, and of how many of them each verdict is said.
 use Rattle.std.specs.Prelude.{◌≡◌, ℕ, ◌+◌, List, Bool, if◌then◌else◌}
 use Rattle.std.specs.List.{count_by, filter, range_with_len}
-use Rattle.ht_collapse.specs.Classes.{is_representative, own_representatives, class_count}
+use Rattle.ht_faults.specs.Classes.{is_representative, own_representatives, class_count}
 use Rattle.ht_texts.specs.declared.item.Item.{Item}
 use Rattle.ht_texts.specs.declared.item.Item.TheVariants.{Head, Verdict, Member, Total}
 use Rattle.ht_texts.specs.declared.said.Said.{Said}

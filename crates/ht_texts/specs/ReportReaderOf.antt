@@ -1,7 +1,7 @@
 -- What the fields of a reader of reports stand for.
 use Rattle.std.specs.Prelude.{◌≡◌, ◌<◌, ◌≤◌, ◌+◌, ◌-◌, ◌^◌, true, length}
 use Rattle.ht_faults.specs.Sites.{faults_of}
-use Rattle.ht_collapse.specs.Classes.{AreClasses, class_count}
+use Rattle.ht_faults.specs.Classes.{AreClasses, class_count}
 use Rattle.ht_texts.specs.ReportStands.{ReportView}
 use Rattle.ht_texts.specs.declared.report_reader.ReportReader.TheInside.{Inside}
 

@@ -1,15 +1,14 @@
 //! A report without its total line.
 ghost use Rattle.std.specs.Prelude.{◌≡◌, IfOk};
 ghost use Rattle.ht_faults.specs.Sites.{faults_of};
-ghost use Rattle.ht_collapse.specs.Classes.{AreClasses};
+ghost use Rattle.ht_faults.specs.Classes.{AreClasses};
 ghost use Rattle.ht_texts.specs.Verdicts.{AreSayable};
 ghost use Rattle.ht_texts.specs.Reports.{report_body};
 
 use crate::fault_line::push_fault;
 use crate::head::write_head;
 use crate::said::Said;
-use ht_collapse::Classes;
-use ht_faults::FaultList;
+use ht_faults::{Classes, FaultList};
 use ht_net::Circuit;
 use std::alloc::{AllocError, Global};
 

@@ -1,15 +1,15 @@
 //! How many classes there are, and of how many of them each verdict is said.
 ghost use Rattle.std.specs.Prelude.{◌≡◌, ◌<◌, ◌-◌, ◌^◌, [], length};
-ghost use Rattle.ht_collapse.specs.Classes.{class_count};
+ghost use Rattle.ht_faults.specs.Classes.{class_count};
 ghost use Rattle.ht_texts.specs.Counts.{CountsOne, CountsItem, sums_among, sums_of};
 
 use crate::item::Item;
 use crate::said::Said;
 use crate::total::Sums;
-use ht_collapse::Classes;
+use ht_faults::Classes;
 
-// How many classes there are.
-#[tactic(auto, using(ht_collapse::proofs::OwnLaws::own_within))]
+/// How many classes there are.
+#[tactic(auto, using(ht_faults::proofs::OwnLaws::own_within))]
 pub fn count_classes(classes: &Classes) -> u32
     ensures { result ≡ class_count classes.now }
 {

@@ -1,7 +1,7 @@
 //! One line of a search's report, read.
 ghost use Rattle.std.specs.Prelude.{◌≡◌};
 ghost use Rattle.ht_faults.specs.Sites.{faults_of};
-ghost use Rattle.ht_collapse.specs.Classes.{AreClasses};
+ghost use Rattle.ht_faults.specs.Classes.{AreClasses};
 ghost use Rattle.ht_texts.specs.ReportLines.{FindsItem};
 
 use crate::item::Item;
@@ -9,8 +9,7 @@ use crate::read_fault::read_fault;
 use crate::read_head::read_head;
 use crate::read_total::is_total;
 use crate::total::Sums;
-use ht_collapse::Classes;
-use ht_faults::FaultList;
+use ht_faults::{Classes, FaultList};
 use ht_net::Circuit;
 
 // What line `n` says, from 0, where the lines before have these sums, or `None` where no report of a search has it

@@ -1,7 +1,7 @@
 //! The report of a search, read line by line.
 ghost use Rattle.std.specs.Prelude.{◌≡◌, ℕ, List, IsTrue};
 ghost use Rattle.ht_faults.specs.Sites.{faults_of};
-ghost use Rattle.ht_collapse.specs.Classes.{AreClasses};
+ghost use Rattle.ht_faults.specs.Classes.{AreClasses};
 ghost use Rattle.ht_texts.specs.ReportReading.{ReportReading};
 ghost use Rattle.ht_texts.specs.ReportStands.{new_report, ReportStands, ReportCalled, EndsReport};
 
@@ -9,8 +9,7 @@ use crate::item::Item;
 use crate::malformed_line::MalformedLine;
 use crate::read_line::read_line;
 use crate::total::Sums;
-use ht_collapse::Classes;
-use ht_faults::FaultList;
+use ht_faults::{Classes, FaultList};
 use ht_net::Circuit;
 use std::marker::Model;
 

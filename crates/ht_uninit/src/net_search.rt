@@ -53,11 +53,7 @@ impl<'c> Problem for NetSearch<'c> {
       net = s.net.0;
     } };
 
-    ghost guide = { λ s. guide_for (record {
-      circuit = s.held.circuit;
-      members = s.held.members;
-      net = s.net.0;
-    }) };
+    ghost guide = { guide_for };
 
     ghost route = { λ s. route_of (steps_under [] s.held.path) };
 

@@ -8,8 +8,8 @@ use Rattle.ht_tern.specs.declared.tern.Tern.{Tern}
 use Rattle.ht_net.specs.Netlist.{Netlist}
 use Rattle.ht_net.specs.Detection.{IsStart}
 use Rattle.ht_faults.specs.Sites.{faults_of}
-use Rattle.ht_collapse.specs.Classes.{AreClasses}
-use Rattle.ht_collapse.proofs.ClassLaws.{own_representative}
+use Rattle.ht_faults.specs.Classes.{AreClasses}
+use Rattle.ht_faults.proofs.ClassLaws.{own_representative}
 use Rattle.ht_tree.specs.declared.entry.Entry.{Entry}
 use Rattle.ht_texts.specs.declared.said.Said.{Said}
 use Rattle.ht_texts.specs.Verdicts.{said_at}

@@ -5,7 +5,7 @@ use Rattle.ht_net.specs.Netlist.{Netlist, IsCircuit}
 use Rattle.ht_net.specs.Detection.{Detects, IsStart}
 use Rattle.ht_net.specs.Silence.{Sealed}
 use Rattle.ht_net.proofs.SilenceLaws.{sealed_undetected_from}
-use Rattle.ht_collapse.specs.Classes.{fault_at}
+use Rattle.ht_faults.specs.Classes.{fault_at}
 use Rattle.ht_tree.specs.declared.entry.Entry.{Entry}
 use Rattle.ht_tree.specs.declared.entry.Entry.TheVariants as entries
 use Rattle.ht_tree.specs.declared.kind.EntryKind.TheVariants as kinds

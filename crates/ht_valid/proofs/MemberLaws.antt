@@ -10,8 +10,8 @@ use Rattle.ht_net.specs.Faults.{bool_rules}
 use Rattle.ht_net.specs.Detection.{Detects, DetectsFrom, IsStart, unknown_state}
 use Rattle.ht_net.specs.Silence.{AgreeOutside, Sealed}
 use Rattle.ht_net.proofs.SilenceLaws.{sealed_undetected_from, silent_undetected_from}
-use Rattle.ht_collapse.specs.Classes.{SameClass}
-use Rattle.ht_collapse.proofs.RunLaws.{bool_members_alike, members_detected}
+use Rattle.ht_faults.specs.Classes.{SameClass}
+use Rattle.ht_faults.proofs.RunLaws.{bool_members_alike, members_detected}
 use Rattle.ht_tree.specs.declared.clause.Clause.{Clause}
 use Rattle.ht_tree.specs.declared.clause.Literal.{Literal}
 use Rattle.ht_tree.specs.declared.entry.Entry.{Entry}

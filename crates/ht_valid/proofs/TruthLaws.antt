@@ -6,8 +6,8 @@ use Rattle.ht_net.specs.declared.place.Place.{Place}
 use Rattle.ht_net.specs.Netlist.{Netlist, IsCircuit}
 use Rattle.ht_net.specs.Detection.{IsFirstFrom, IsStart}
 use Rattle.ht_net.proofs.ApartLaws.{detected_apart_from}
-use Rattle.ht_collapse.specs.Classes.{AreClasses, SameClass, fault_at}
-use Rattle.ht_collapse.proofs.RunLaws.{members_detected}
+use Rattle.ht_faults.specs.Classes.{AreClasses, SameClass, fault_at}
+use Rattle.ht_faults.proofs.RunLaws.{members_detected}
 use Rattle.ht_tree.specs.declared.entry.Entry.{Entry}
 use Rattle.ht_tree.specs.declared.entry.Entry.TheVariants as entries
 use Rattle.ht_tree.specs.declared.kind.EntryKind.{EntryKind}

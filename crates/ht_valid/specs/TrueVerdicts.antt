@@ -7,7 +7,7 @@ use Rattle.ht_net.specs.Netlist.{Netlist}
 use Rattle.ht_net.specs.Detection.{ApartFrom, Detects, DetectsFrom, IsFirstFrom}
 use Rattle.ht_net.specs.Silence.{Sealed}
 use Rattle.ht_faults.specs.Sites.{faults_of}
-use Rattle.ht_collapse.specs.Classes.{fault_at}
+use Rattle.ht_faults.specs.Classes.{fault_at}
 use Rattle.ht_tree.specs.declared.entry.Entry.{Entry}
 use Rattle.ht_tree.specs.declared.entry.Entry.TheVariants as entry
 use Rattle.ht_tree.specs.declared.kind.EntryKind.{EntryKind}

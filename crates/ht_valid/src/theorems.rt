@@ -5,7 +5,7 @@ ghost use Rattle.ht_net.specs.declared.fault.Fault.{Fault};
 ghost use Rattle.ht_net.specs.Netlist.{Netlist, IsCircuit};
 ghost use Rattle.ht_net.specs.Detection.{IsStart};
 ghost use Rattle.ht_faults.specs.Sites.{faults_of};
-ghost use Rattle.ht_collapse.specs.Classes.{AreClasses};
+ghost use Rattle.ht_faults.specs.Classes.{AreClasses};
 ghost use Rattle.ht_tree.specs.declared.entry.Entry.{Entry};
 ghost use Rattle.ht_tree.specs.declared.limits.TheConstants.{MAX_BUDGET};
 ghost use Rattle.ht_tree.specs.Entries.{Passes};

@@ -40,7 +40,7 @@ impl<'c> Problem for Trial<'c> {
 
     ghost subject = { λ s. s.window.window };
 
-    ghost guide = { λ s. guide_of s.window.window };
+    ghost guide = { guide_of };
 
     ghost route = { λ s. route_of (steps_under [] s.window.decisions) };
 

@@ -4,8 +4,7 @@ ghost use Rattle.std.specs.Prelude.{◌≡◌, ◌≤◌, length, IfOk, IsTrue};
 use crate::MAX_BYTES;
 use crate::entries::numbers::push_end;
 use ht_bench::read;
-use ht_collapse::collapse;
-use ht_faults::list;
+use ht_faults::{collapse, list};
 use ht_texts::{Item, ReportReader, Said};
 use std::alloc::{AllocError, Global};
 

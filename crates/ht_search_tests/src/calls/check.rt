@@ -2,9 +2,10 @@
 use self::Said::{Fails, FailsEmptied, FailsTurned, Passes};
 use super::entries::read_text;
 use super::small::{NET_1_AT_1, sample_circuit, stem_of};
-use ht_check::{KeptFrames, entry, entry_by_frames};
+use ht_check::{entry, entry_by_frames};
 use ht_items::Items;
 use ht_net::{Circuit, Fault, unknown_start};
+use ht_recompute::KeptFrames;
 use ht_samples::{NamedTexts, first_word, paragraph_of};
 use ht_tree::{Clause, Entry};
 use std::alloc::{AllocError, Global};

@@ -1,7 +1,6 @@
 //! Tests of the reader of a report: the report of a circuit whose output is always 0, whole and damaged.
 use super::small::circuit_of;
-use ht_collapse::collapse;
-use ht_faults::list;
+use ht_faults::{collapse, list};
 use ht_net::{Circuit, Place};
 use ht_samples::{ALWAYS_ZERO, first_word};
 use ht_texts::{Item, ReportReader, Said};

@@ -1,8 +1,9 @@
 //! Tests of ht_check: walks of windows by hand, with their weights.
 use super::small::{NET_1_AT_0, circuit_of};
 use super::tokens::{B, D, TWO_0, TWO_2, X};
-use ht_check::{Finding, FreshWindow, KeptFrames, judge_walk};
+use ht_check::{Finding, judge_walk};
 use ht_net::Circuit;
+use ht_recompute::{FreshWindow, KeptFrames};
 use ht_samples::{TOGGLE, TWINS};
 use ht_tern::Tern::{self, One, Unk, Zero};
 use ht_tree::Token;

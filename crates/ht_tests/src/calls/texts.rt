@@ -2,8 +2,7 @@
 ghost use Rattle.ht_texts.specs.Verdicts.{IsSayable};
 
 use ht_bench::read;
-use ht_collapse::collapse;
-use ht_faults::list;
+use ht_faults::{collapse, list};
 use ht_net::{Circuit, Place};
 use ht_samples::ALWAYS_ZERO;
 use ht_texts::{

@@ -1,4 +1,4 @@
-use Rattle.ht_collapse.proofs.OwnLaws.{own_below}
+use Rattle.ht_faults.proofs.OwnLaws.{own_below}
 use Rattle.ht_dictionary.proofs.diagnosis_text.count_consistent.Goals as goal
 
 pub get-requires : goal.get-requires

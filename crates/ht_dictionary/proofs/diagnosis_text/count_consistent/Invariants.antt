@@ -1,6 +1,6 @@
 use Rattle.std.proofs.Common.{◌≡◌, take}
 use Rattle.std.specs.Prelude.{count_by, is_none}
-use Rattle.ht_collapse.specs.Classes.{own_representatives}
+use Rattle.ht_faults.specs.Classes.{own_representatives}
 use Rattle.ht_dictionary.specs.Diagnoses.{contradiction_at}
 use Rattle.ht_dictionary.proofs.diagnosis_text.count_consistent.Given as goal
 

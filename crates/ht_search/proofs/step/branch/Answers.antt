@@ -16,8 +16,9 @@ returns-in_ok-decide-in-Two-clause-goes g c = λ start walked.
     let left : c.put_off.new.self.left + c.args.unit ≡ c.args.progress.now.left = omega (arith, u.left, w.left) in
     let other : Untried = record { point = c.mark-point.result; var = c.in-Two.var; value = c.from.result } in
     let waits = u.untried ∙ ap (λ (t : Vec Untried). other ∷ reverse t.items) w.untried in
-    goes_two (p.guide c.args.problem.now) start (p.route c.args.problem.now) c.args.progress.now walked c.args.unit
-    (p.route c.decide.new.self) c.put_off.new.self c.mark-point.result c.in-Two.var c.from.result c.from-in-Two.result
+    goes_two (p.guide (p.subject c.args.problem.now)) start (p.route c.args.problem.now) c.args.progress.now walked
+    c.args.unit (p.route c.decide.new.self) c.put_off.new.self c.mark-point.result c.in-Two.var c.from.result
+    c.from-in-Two.result
     c.in-Two.first (sym v.chosen) v.fits c.mark-point.ensures c.from.ensures c.from-in-Two.ensures
     c.in_ok-decide-in-Two.ensures.ok (same ∙ w.tokens) left waits
 
@@ -35,6 +36,6 @@ returns-in_ok-decide-in-Three-clause-goes g c = λ start walked.
     let one : Untried = record { point = c.mark-point.result; var = c.in-Three.var; value = One } in
     let waits = o.untried
     ∙ ap (λ (t : List Untried). one ∷ t) (u.untried ∙ ap (λ (t : Vec Untried). unknown ∷ reverse t.items) w.untried) in
-    goes_three (p.guide c.args.problem.now) start (p.route c.args.problem.now) c.args.progress.now walked c.args.unit
-    (p.route c.decide-in-Three.new.self) new c.mark-point.result c.in-Three.var (sym v.chosen) v.fits
+    goes_three (p.guide (p.subject c.args.problem.now)) start (p.route c.args.problem.now) c.args.progress.now walked
+    c.args.unit (p.route c.decide-in-Three.new.self) new c.mark-point.result c.in-Three.var (sym v.chosen) v.fits
     c.mark-point.ensures c.in_ok-decide-in-Three.ensures.ok (same ∙ w.tokens) left waits

@@ -15,7 +15,7 @@ returns-in-None-clause-finished g c =
     let none = nil_from_length c.write.new.self.untried.items (omega (arith, c.in-None.ensures.cases.0)) in
     λ e. (
       refl,
-      finishes (p.guide c.args.problem.now) c.args.start (p.route c.args.problem.now) c.args.progress.now
+      finishes (p.guide (p.subject c.args.problem.now)) c.args.start (p.route c.args.problem.now) c.args.progress.now
           c.requires.walked c.args.unit now (sym (ap (λ (v : Vec Untried). v.items) w.untried) ∙ none) c.requires.dead
           w.tokens w.left,
     )
@@ -29,6 +29,7 @@ returns-in_ok-decide-in-Some-clause-goes g c =
     let now : SearchProgress =
     record { tokens = c.write.new.self.tokens; untried = c.pop.new.self; left = c.write.new.self.left } in
     let items = sym (ap (λ (v : Vec Untried). v.items) w.untried) ∙ c.in-Some.ensures.items in
-    λ e. goes_back (p.guide c.args.problem.now) c.args.start (p.route c.args.problem.now) c.args.progress.now
-    c.requires.walked c.pop.new.self.items c.in-Some.next items c.args.unit (p.route c.undo.new.self)
+    λ e. goes_back (p.guide (p.subject c.args.problem.now)) c.args.start (p.route c.args.problem.now)
+    c.args.progress.now c.requires.walked c.pop.new.self.items c.in-Some.next items c.args.unit (p.route
+    c.undo.new.self)
     (p.route c.decide.new.self) now c.requires.dead u.route d.ok w.tokens w.left refl

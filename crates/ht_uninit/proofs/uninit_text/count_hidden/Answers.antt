@@ -1,4 +1,4 @@
-use Rattle.ht_collapse.proofs.OwnLaws.{own_below}
+use Rattle.ht_faults.proofs.OwnLaws.{own_below}
 use Rattle.ht_uninit.proofs.uninit_text.count_hidden.Goals as goal
 
 pub hidden-requires : goal.hidden-requires

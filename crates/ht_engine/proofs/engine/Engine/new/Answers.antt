@@ -4,7 +4,7 @@ use Rattle.std.proofs.lemmas.List.Elements.{All-nil}
 use Rattle.ht_tern.specs.declared.tern.Tern.{Tern}
 use Rattle.ht_net.specs.Detection.{IsStart, some_state}
 use Rattle.ht_net.proofs.SilenceLaws.{some_long}
-use Rattle.ht_grade.specs.GraderView.{GraderView}
+use Rattle.ht_proofs.specs.GraderView.{GraderView}
 use Rattle.ht_tree.specs.Invariants.{IsInvariant}
 use Rattle.ht_invariant.specs.FoundClauses.{FindsClauses}
 use Rattle.ht_valid.specs.ValidFiles.{HasEntry}

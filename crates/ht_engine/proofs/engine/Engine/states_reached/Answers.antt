@@ -1,5 +1,5 @@
 use Rattle.std.proofs.Common.{Some, None, refl, ◌∙◌}
-use Rattle.ht_collapse.specs.Classes.{fault_at}
+use Rattle.ht_faults.specs.Classes.{fault_at}
 use Rattle.ht_engine.specs.EngineOf.{engine_of}
 use Rattle.ht_engine.proofs.EngineLaws.{grader_detection, state_of}
 use Rattle.ht_engine.proofs.engine.Engine.states_reached.Goals as goal

@@ -1,5 +1,5 @@
 use Rattle.std.proofs.Common.{Some, None, ap, refl, sym, ◌∙◌}
-use Rattle.ht_collapse.specs.Classes.{fault_at}
+use Rattle.ht_faults.specs.Classes.{fault_at}
 use Rattle.ht_engine.specs.EngineOf.{engine_of}
 use Rattle.ht_engine.specs.EngineStands.{EngineView}
 use Rattle.ht_engine.proofs.DeepLaws.{if_ok_three}

@@ -1,7 +1,7 @@
 use Rattle.std.proofs.Common.{◌<◌, ℕ, List, length, get_or, ap, subst}
 use Rattle.std.proofs.lemmas.List.{get_or_default}
-use Rattle.ht_collapse.specs.Classes.{class_count, own_representatives}
-use Rattle.ht_collapse.proofs.OwnLaws.{own_below}
+use Rattle.ht_faults.specs.Classes.{class_count, own_representatives}
+use Rattle.ht_faults.proofs.OwnLaws.{own_below}
 use Rattle.ht_texts.specs.declared.said.Said.{Said}
 use Rattle.ht_texts.specs.declared.said.Said.TheVariants.{Undetected}
 use Rattle.ht_texts.specs.Counts.{CountsOne}

@@ -1,5 +1,5 @@
 use Rattle.std.proofs.Common.{take}
-use Rattle.ht_collapse.specs.Classes.{class_count, own_representatives}
+use Rattle.ht_faults.specs.Classes.{class_count, own_representatives}
 use Rattle.ht_texts.proofs.CountLaws.{AreTallied}
 use Rattle.ht_texts.proofs.total.Sums.of.Given as goal
 

@@ -1,0 +1,56 @@
+-- What is said of the attempt at the told frame of a task: its circuit, fault and budget go along.
+use Rattle.std.specs.Prelude.{[], ◌∷◌}
+use Rattle.ht_net.specs.Rows.{Rows}
+use Rattle.ht_tree.specs.AimedAttempts.{back_limit, told_cube}
+use Rattle.ht_forward.specs.declared.ahead.Ahead.{Ahead}
+use Rattle.ht_justify.specs.declared.justification.Back.{Back}
+use Rattle.ht_justify.specs.Answers.{BackHolds, IsListBack}
+use Rattle.ht_engine.specs.declared.attempt.Attempted.{Attempted}
+use Rattle.ht_engine.specs.declared.attempt.Task.{Task}
+use Rattle.ht_engine.specs.declared.told_frame.ToldFrame.{ToldFrame}
+use Rattle.ht_engine.specs.Attempts.{AheadOfHolds, AttemptHolds, FindsAhead, FindsBoth, IsAheadOf, IsAttempted, IsBackOf, IsListAheadOf}
+use Rattle.ht_engine.specs.ToldFrames.{IsFrameOf}
+
+-- the searches that lead to the end of the attempt
+abbrev pub IsTaskAttempt : Task → Attempted → Type 0
+IsTaskAttempt t = IsAttempted t.circuit.now t.fault t.budget (t.told.now ∷ [])
+
+-- what its end means
+abbrev pub TaskAttemptHolds : Task → Attempted → Type 0
+TaskAttemptHolds t = AttemptHolds t.circuit.now t.fault t.budget (t.told.now ∷ [])
+
+-- the latches that the frame needs, and its vector
+abbrev pub IsTaskFrame : Task → ToldFrame → Type 0
+IsTaskFrame t = IsFrameOf t.circuit.now t.told.now
+
+-- what the search ahead comes to
+abbrev pub IsTaskAhead : Task → Ahead → Type 0
+IsTaskAhead t = IsAheadOf t.circuit.now t.fault t.budget t.told.now t.told.now.place
+
+-- what that means
+abbrev pub TaskAheadHolds : Task → Ahead → Type 0
+TaskAheadHolds t = AheadOfHolds t.circuit.now t.fault t.budget t.told.now
+
+-- what the search back comes to
+abbrev pub IsTaskBack : Task → Back → Type 0
+IsTaskBack t = IsBackOf t.circuit.now t.budget t.told.now
+
+-- what that means
+abbrev pub TaskBackHolds : Task → Back → Type 0
+TaskBackHolds t = BackHolds t.circuit.now (told_cube t.circuit.now t.told.now) back_limit t.budget
+
+-- the list ahead is found
+abbrev pub FindsTaskAhead : Task → Rows → Type 0
+FindsTaskAhead t = FindsAhead t.circuit.now t.fault t.budget t.told.now
+
+-- a list ahead of the frame
+abbrev pub IsTaskListAhead : Task → Rows → Type 0
+IsTaskListAhead t = IsListAheadOf t.circuit.now t.fault t.told.now
+
+-- both lists are found
+abbrev pub FindsTaskBoth : Task → Rows → Rows → Type 0
+FindsTaskBoth t = FindsBoth t.circuit.now t.fault t.budget t.told.now
+
+-- a list back from the frame
+abbrev pub IsTaskListBack : Task → Rows → Type 0
+IsTaskListBack t = IsListBack t.circuit.now (told_cube t.circuit.now t.told.now) back_limit
