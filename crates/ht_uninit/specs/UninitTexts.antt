@@ -35,11 +35,11 @@ decision_text set = numbered_from_1 (codes "set ") set.var ++ value_text set.val
 
 -- a line of a word and the number, from 1, of what has this index, and below it a line for each token of a walk
 abbrev pub walk_text : List ℕ → ℕ → List Token → List ℕ
-walk_text word index tokens = with_lf (numbered_from_1 word index) ++ with_lfs (map token_text tokens)
+walk_text name index tokens = with_lf (numbered_from_1 name index) ++ with_lfs (map token_text tokens)
 
 -- the same with a line for each decision
 abbrev pub decisions_text : List ℕ → ℕ → List Assign3 → List ℕ
-decisions_text word index sets = with_lf (numbered_from_1 word index) ++ with_lfs (map decision_text sets)
+decisions_text name index sets = with_lf (numbered_from_1 name index) ++ with_lfs (map decision_text sets)
 
 -- ---- flip-flops and outputs
 

@@ -3,7 +3,8 @@ ghost use Rattle.std.specs.Prelude.{◌≡◌, ◌<◌, ◌++◌, length, OnOk};
 ghost use Rattle.ht_faults.specs.Sites.{faults_of};
 ghost use Rattle.ht_faults.specs.Classes.{AreClasses};
 ghost use Rattle.ht_texts.specs.Lines.{with_lf};
-ghost use Rattle.ht_uninit.specs.UninitTexts.{decision_text, decisions_text, hidden_line, removal_text, searched_text, walk_text};
+ghost use Rattle.ht_texts.specs.Pieces.{add_pieces};
+ghost use Rattle.ht_uninit.specs.UninitTexts.{decision_text, decisions_text, hidden_line, hidden_pieces, removal_text, searched_text, walk_text};
 
 use crate::record::{Out3, Removed};
 use ht_entries::{push_indexed, push_token};
@@ -103,8 +104,17 @@ pub fn push_hidden(
         return push_fault(text, circuit, faults, classes, i, Said::Undetected);
     }
     push_line_front(text, circuit, faults, i)?;
+    push_mark(text, hidden)?;
+    text.extend_from_slice(b"\n")?;
+    Ok(())
+}
+
+// Appends whether a representative is hidden.
+fn push_mark(text: &mut Vec<u8>, hidden: bool) -> Result<(), AllocError>
+    ensures { OnOk result (text.new.items ≡ add_pieces text.old.items (hidden_pieces hidden)) }
+{
     match hidden {
-        true => text.extend_from_slice(b"hidden\n"),
-        false => text.extend_from_slice(b"possible\n"),
+        true => text.extend_from_slice(b"hidden"),
+        false => text.extend_from_slice(b"possible"),
     }
 }
