@@ -1,13 +1,4 @@
-//! The tests, crate by crate; `run` has those of the program.
+//! The tests: `run` has those of the program, and `doors` those of calls that no run makes.
 
-mod bench;
-mod net;
-mod pairs;
-mod ports;
-mod proofs;
+mod doors;
 mod run;
-mod serial;
-mod statement;
-mod tern;
-mod texts;
-mod words;

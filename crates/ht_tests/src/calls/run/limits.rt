@@ -1,67 +1,85 @@
-//! Netlists at the limits, and one past them.
+//! Limits: what is at one, and what is past one.
 
 pub const ROWS: &str = "~run norm n r
 ~given n
 INPUT(i0)
 ~times 4096 n
 INPUT(i%)
-~status 3
+~ends 3 netlist: line 4097: too many inputs
 ~none r
-~left err
-netlist: line 4097: too many inputs
 ~run norm n r
 ~given n
 INPUT(a)
 ~times 65535 n
 n% = BUFF(a)
-~status 3
-~none r
-~left err
-netlist: line 65536: too many nets
+~ends 3 netlist: line 65536: too many nets
 ~run norm n r
 ~given n
 INPUT(a)
 ~times 16385 n
 q% = DFF(a)
-~status 3
-~none r
-~left err
-netlist: line 16386: too many flip-flops
-~# the first two gates and 1,027 of 255 pins have all 262,144 pins; a is read 255 times: 15 lines of 17
+~ends 3 netlist: line 16386: too many flip-flops
+~# the first two gates and 1,027 of 255 pins have all 262,144 pins; a is read 255 times: seven lines of 34 and one of 17
 ~run norm n r
 ~given n
 INPUT(a)
 z = AND(a, a, a, a)
 ~times 1029 n
-g% = AND(a, a, a, a, a, a, a, a, a, a, a, a, a, a, a, a, a, \
-    a, a, a, a, a, a, a, a, a, a, a, a, a, a, a, a, a, \
-    a, a, a, a, a, a, a, a, a, a, a, a, a, a, a, a, a, \
-    a, a, a, a, a, a, a, a, a, a, a, a, a, a, a, a, a, \
-    a, a, a, a, a, a, a, a, a, a, a, a, a, a, a, a, a, \
-    a, a, a, a, a, a, a, a, a, a, a, a, a, a, a, a, a, \
-    a, a, a, a, a, a, a, a, a, a, a, a, a, a, a, a, a, \
-    a, a, a, a, a, a, a, a, a, a, a, a, a, a, a, a, a, \
-    a, a, a, a, a, a, a, a, a, a, a, a, a, a, a, a, a, \
-    a, a, a, a, a, a, a, a, a, a, a, a, a, a, a, a, a, \
-    a, a, a, a, a, a, a, a, a, a, a, a, a, a, a, a, a, \
-    a, a, a, a, a, a, a, a, a, a, a, a, a, a, a, a, a, \
-    a, a, a, a, a, a, a, a, a, a, a, a, a, a, a, a, a, \
-    a, a, a, a, a, a, a, a, a, a, a, a, a, a, a, a, a, \
+g% = AND(a, a, a, a, a, a, a, a, a, a, a, a, a, a, a, a, a, a, a, a, a, a, a, a, a, a, a, a, a, a, a, a, a, a, \
+    a, a, a, a, a, a, a, a, a, a, a, a, a, a, a, a, a, a, a, a, a, a, a, a, a, a, a, a, a, a, a, a, a, a, \
+    a, a, a, a, a, a, a, a, a, a, a, a, a, a, a, a, a, a, a, a, a, a, a, a, a, a, a, a, a, a, a, a, a, a, \
+    a, a, a, a, a, a, a, a, a, a, a, a, a, a, a, a, a, a, a, a, a, a, a, a, a, a, a, a, a, a, a, a, a, a, \
+    a, a, a, a, a, a, a, a, a, a, a, a, a, a, a, a, a, a, a, a, a, a, a, a, a, a, a, a, a, a, a, a, a, a, \
+    a, a, a, a, a, a, a, a, a, a, a, a, a, a, a, a, a, a, a, a, a, a, a, a, a, a, a, a, a, a, a, a, a, a, \
+    a, a, a, a, a, a, a, a, a, a, a, a, a, a, a, a, a, a, a, a, a, a, a, a, a, a, a, a, a, a, a, a, a, a, \
     a, a, a, a, a, a, a, a, a, a, a, a, a, a, a, a, a)
-~status 3
-~none r
-~left err
-netlist: line 1031: too many pins
+~ends 3 netlist: line 1031: too many pins
+~# a gate of 256 arguments, and a name of 256 bytes
 ~run norm n r
 ~given n
 INPUT(a)
 g1 = AND(a~times 255 n
-, a~given n
+, a~with n 3 netlist: line 2: bad count
 )
-~status 3
-~none r
-~left err
-netlist: line 2: bad count
+~run norm n r
+~given n
+INPUT(a~times 255 n
+b~with n 3 netlist: line 1: bad name
+)
+~# the longest chain of gates, with its lines from the end: a value goes through it
+~run respond n t r
+~given n
+INPUT(n65535)
+OUTPUT(n1)
+~times 65534 n
+n% = BUFF(n^)
+~with t 0 responses vectors 1 outputs 1
+1
+~left r
+1
+~# two walks over a gate of 255 pins, of which each decides 200 inputs
+~run report n t p r --budget 200
+~times 255 n
+INPUT(a%)
+~given n
+OUTPUT(z)
+z = AND(a1~times 254 n
+, a^~given n
+)
+~given t
+~given p
+proofs 1
+entry 1 aborted
+walk
+~times 200 p
+hi %
+~given p
+sweep
+length 1
+~times 200 p
+hi %
+~with p 0 total 257 detected 0 untestable 0 aborted 1 undetected 256
+end
 ";
 
 // A comment of 16,777,216 bytes, and of one byte more.
@@ -70,16 +88,8 @@ pub const LONG: &str = "~run norm n r
 ################################################################\
     ################################################################\
     ################################################################\
-    ################################################################~status 0
+    ################################################################~ends 0
 ~left r
-~run norm n r
-~times 65536 n
-################################################################\
-    ################################################################\
-    ################################################################\
-    ################################################################~given n
-#~status 3
-~none r
-~left err
-netlist: too long
+~with n 3 netlist: too long
+#~none r
 ";

@@ -1,19 +1,72 @@
 //! Refused memory. In the gate no allocation is refused; outside it these tests run with each of their allocations
-//! refused in turn (`rt try --test --fail-alloc N`).
+//! refused in turn (`rt try --test --fail-alloc N`, and `model/refused --desk`).
+ghost use Rattle.ht_ports.specs.Memory.{memory_view};
 
-use super::mute::{MuteDesk, status_on};
-use super::rows::status_of;
-use ht_ports::MemoryDesk;
-use ht_samples::{SHIFT_REGISTER, SHIFT_REGISTER_REPORT};
+use super::rows::{status_of, words_of};
+use ht_app::run;
+use ht_ports::{Desk, Failed, InPort, MemoryDesk, OutPort};
 use std::alloc::{AllocError, Global};
 use std::test::Fail;
 
+/// A memory desk whose standard error takes nothing: each write to it is a counted fault.
+#[derive(Drop)]
+struct MuteDesk {
+    inner: MemoryDesk,
+    out_faults: u64,
+    /// A call on another out-port failed.
+    output_failed: bool,
+}
+
+impl Desk for MuteDesk {
+    ghost use Rattle.std.proofs.Common.{rules};
+
+    ghost view = { λ d. record (memory_view d.inner) { out_faults = d.out_faults } };
+
+    ghost steady_tells = { λ desk name steady. Prim.search rules };
+
+    fn open(&mut self, port: InPort, name: &str) -> Result<(), Failed> {
+        self.inner.open(port, name)
+    }
+
+    fn create(&mut self, port: OutPort, name: &str) -> Result<(), Failed> {
+        match self.inner.create(port, name) {
+            Ok(()) => Ok(()),
+            Err(Failed) => {
+                self.out_faults = self.out_faults.saturating_add(1);
+                self.output_failed = true;
+                Err(Failed)
+            }
+        }
+    }
+
+    fn read(&mut self, port: InPort, buf: &mut [u8]) -> Result<usize, Failed> {
+        self.inner.read(port, buf)
+    }
+
+    fn write(&mut self, port: OutPort, bytes: &[u8]) -> Result<usize, Failed> {
+        if port != OutPort::Err {
+            if let Ok(count) = self.inner.write(port, bytes) {
+                return Ok(count);
+            }
+            self.output_failed = true;
+        }
+        self.out_faults = self.out_faults.saturating_add(1);
+        Err(Failed)
+    }
+}
+
 const SIM: &str = "sim n t r";
+
+const REPORT: &[u8] = b"circuit inputs 1 outputs 1 flip-flops 0 gates 0 faults 2 classes 2
+1 a s-a-0 detected 1 a
+2 a s-a-1 undetected
+total 2 detected 1
+";
 
 // Puts the files on the desk that the words name.
 fn load(desk: &mut MemoryDesk) -> Result<(), AllocError> {
-    desk.put("n", SHIFT_REGISTER.as_bytes())?;
-    desk.put("t", b"1\n0\n0\n")
+    desk.put("n", b"INPUT(a)\nOUTPUT(a)\n")?;
+    desk.put("t", b"1\n")
 }
 
 /// The line on Err where calls or memory may be refused; a desk in memory counts a refused growth as a fault.
@@ -31,7 +84,7 @@ fn line_at(status: u8) -> Option<&'static [u8]> {
 fn says_status(alloc: Global, desk: &mut MemoryDesk) -> Result<bool, AllocError> {
     load(desk)?;
     let status = status_of(alloc, desk, SIM)?;
-    let is_whole = status != 0 || desk.file("r") == Some(SHIFT_REGISTER_REPORT.as_bytes());
+    let is_whole = status != 0 || desk.file("r") == Some(REPORT);
     Ok(is_whole && line_at(status) == Some(desk.err()))
 }
 
@@ -46,8 +99,9 @@ fn refused_memory_has_its_status(rt: HostRuntime) -> Result<(), Fail> {
 // line on Err did.
 fn keeps_status(alloc: Global, desk: &mut MuteDesk) -> Result<bool, AllocError> {
     load(&mut desk.inner)?;
-    let status = status_on(alloc, desk, SIM)?;
-    let is_whole = status != 0 || desk.inner.file("r") == Some(SHIFT_REGISTER_REPORT.as_bytes());
+    let words = words_of(alloc, SIM)?;
+    let status = run(alloc, &words, desk);
+    let is_whole = status != 0 || desk.inner.file("r") == Some(REPORT);
     Ok(is_whole && (status == 5) == desk.output_failed && line_at(status).is_some())
 }
 

@@ -1,126 +1,149 @@
 //! One form for all tests of `run`: texts that say the words, what stands on the desk before, and what must stand on it
-//! after. Their paragraphs (of `ht_samples`) begin with these words:
+//! after. A text has paragraphs. Each begins with `~`, and its first line has its words, and after a `<` the names of
+//! texts. The paragraph's own text is theirs, one after the other, and then its other lines. It begins with these
+//! words:
 //!
 //! | Words | What they say |
 //! |---|---|
 //! | `text NAME` | a text has this name from here on |
-//! | `run WORDS` | a row begins: a desk without files, and these words |
+//! | `run WORDS` | a row begins: these words, and a desk without files |
 //! | `given FILE` | the file is there with this text; said again, it goes on with this one |
-//! | `times N FILE` | the file goes on with this text so many times; `%` is the number of the time, from 1 |
+//! | `times N FILE` | the file goes on with this text so many times; `%` is the number of the time, from 1, and `^` the one after |
 //! | `most N` | one read gives so many bytes at the most |
-//! | `fail CALL PORT N` | this call fails: `open` or `create`, or the `read` or `write` of this number |
-//! | `status N` | the run ends with this status |
-//! | `left FILE`, `none FILE` | then the file has this text, or isn't there; Out is `out` and Err `err`, and they have none if not said |
-//! | `begins FILE`, `part FILE` | it begins with this text, or has it somewhere |
-//! | `closes FILE` | it ends with what is on Out |
+//! | `ends STATUS LINE` | the run ends with this status and leaves this line, or where none is said this text, on Out where the status is 0 and else on Err; the other has none |
+//! | `with FILE STATUS LINE` | so it ends where the file goes on with this text |
+//! | `words STATUS FILE` | with each line after the first as its words it ends with this status, and the file has the first one somewhere |
+//! | `fails` | of each line, which is explained at `fails_so` |
+//! | `left FILE`, `none FILE`, `has FILE` | after the last run the file has this text, isn't there, or has this text somewhere; Out is `out` and Err `err` |
 //! | `# ..` | a remark |
+//!
+//! A run that ends with another status than 0 is made again where the line on Err fails, and has to end with the same
+//! one.
 
-use super::mute::mute_status;
+use super::samples::SAMPLES;
 use ht_app::run;
-use ht_ports::{Fail, InPort, MemoryDesk, OutPort};
-use ht_samples::{NamedTexts, first_word, paragraph_of};
+use ht_ports::InPort::{Netlist, Tests};
+use ht_ports::OutPort::{self, Err as ErrPort, Out, Proofs, Report};
+use ht_ports::{Fail, MemoryDesk};
 use std::alloc::{AllocError, Global};
+use std::mem::replace;
+use std::str::from_utf8;
 
-/// What the standard error does with lines.
-#[derive(Clone, Copy, PartialEq, Eq)]
-pub enum StandardError {
-    Works,
-    /// The first line fails.
-    FailsFirst,
-    /// Each line fails.
-    Fails,
+/// A paragraph of a text of rows.
+#[derive(Clone, Copy)]
+struct Paragraph<'a> {
+    /// The words of its first line.
+    words: &'a str,
+    /// The names of texts, with spaces between them.
+    names: &'a str,
+    /// Its other lines, each with its LF.
+    lines: &'a str,
 }
 
 /// The row that is played, and the texts that have names.
 #[derive(Drop)]
-struct Stage<'a> {
-    texts: NamedTexts<'a>,
-    /// The number of the row in its text, from 1.
-    row: usize,
-    desk: MemoryDesk,
-    /// The words, until they are run.
-    words: Option<&'a str>,
-    /// Whether something was said of Out, and of Err.
-    is_out_said: bool,
-    is_err_said: bool,
+struct Row<'a> {
+    words: &'a str,
+    /// What is laid on the desk before a run.
+    given: Vec<Paragraph<'a>>,
+    named: Vec<(&'a str, &'a str)>,
 }
 
-/// The words of a text, each a `String`; none where it is empty.
-pub fn words_of(alloc: Global, text: &str, separator: char) -> Result<Vec<String>, AllocError> {
-    let mut list = Vec::new(alloc);
-    if text.is_empty() {
-        return Ok(list);
+/// A run of a row: its words, a file that goes on with a text, the call of the desk that fails, and whether the line on
+/// Err does. None is a file or a call without a name.
+#[derive(Clone, Copy)]
+struct Play<'a> {
+    words: &'a str,
+    file: &'a str,
+    text: &'a str,
+    fails: &'a str,
+    is_mute: bool,
+}
+
+// A run of these words over what the row says.
+fn play_of(words: &str) -> Play<'_> {
+    Play {
+        words,
+        file: "",
+        text: "",
+        fails: "",
+        is_mute: false,
     }
-    for word in text.split(separator) {
+}
+
+// The paragraph that stands between one `~` and the next. What stands before the first one has no line.
+fn paragraph_of(text: &str) -> Option<Paragraph<'_>> {
+    let (first, lines) = text.split_once('\n')?;
+    let (words, names) = first.split_once(" <").unwrap_or((first, ""));
+    Some(Paragraph {
+        words,
+        names,
+        lines,
+    })
+}
+
+// The first of some words, and the others.
+fn first_word(words: &str) -> (&str, &str) {
+    words.split_once(' ').unwrap_or((words, ""))
+}
+
+// The text of this name. A row that misses one isn't to hold, so it then reads as a line that says so.
+fn find<'a>(named: &[(&'a str, &'a str)], name: &str) -> &'a str {
+    for (own, text) in named {
+        if *own == name {
+            return text;
+        }
+    }
+    "no text has this name\n"
+}
+
+// The text of a paragraph.
+fn text_of(alloc: Global, row: &Row<'_>, paragraph: Paragraph<'_>) -> Result<String, AllocError> {
+    let mut text = String::new(alloc);
+    for name in paragraph.names.split_whitespace() {
+        text.push_str(find(&row.named, name))?;
+    }
+    text.push_str(paragraph.lines)?;
+    Ok(text)
+}
+
+/// The status of the run with these words, with a space between two of them; of no words where there is none.
+pub fn status_of(alloc: Global, desk: &mut MemoryDesk, words: &str) -> Result<u8, AllocError> {
+    let words = words_of(alloc, words)?;
+    Ok(run(alloc, &words, desk))
+}
+
+/// The words of a text, each a `String`.
+pub fn words_of(alloc: Global, text: &str) -> Result<Vec<String>, AllocError> {
+    let mut list = Vec::new(alloc);
+    for word in text.split_whitespace() {
         list.push(String::from_str(alloc, word)?)?;
     }
     Ok(list)
 }
 
-/// The status of the run with these words.
-pub fn status_of(alloc: Global, desk: &mut MemoryDesk, words: &str) -> Result<u8, AllocError> {
-    let words = words_of(alloc, words, ' ')?;
-    Ok(run(alloc, &words, desk))
-}
-
-fn in_port(name: &str) -> Option<InPort> {
-    match name {
-        "netlist" => Some(InPort::Netlist),
-        "tests" => Some(InPort::Tests),
-        _ => None,
-    }
-}
-
-fn out_port(name: &str) -> Option<OutPort> {
-    match name {
-        "tests" => Some(OutPort::Tests),
-        "report" => Some(OutPort::Report),
-        "proofs" => Some(OutPort::Proofs),
-        "out" => Some(OutPort::Out),
-        "err" => Some(OutPort::Err),
-        _ => None,
-    }
-}
-
-// The call of a desk, its port, and its number where it has one.
+// The call of the desk that these words say: its name and port, and its number, which says nothing where each call
+// fails.
 fn fail_of(words: &str) -> Option<Fail> {
-    let (call, after) = first_word(words);
-    let (port, number) = first_word(after);
-    let nth = number.parse::<u64>().unwrap_or(0);
+    let (call, number) = words.rsplit_once(' ')?;
+    let nth = number.parse::<u64>().ok()?;
     match call {
-        "open" => Some(Fail::Open(in_port(port)?)),
-        "create" => Some(Fail::Create(out_port(port)?)),
-        "read" => Some(Fail::Read {
-            port: in_port(port)?,
+        "open netlist" => Some(Fail::Open(Netlist)),
+        "open tests" => Some(Fail::Open(Tests)),
+        "read netlist" => Some(Fail::Read { port: Netlist, nth }),
+        "create tests" => Some(Fail::Create(OutPort::Tests)),
+        "create report" => Some(Fail::Create(Report)),
+        "create proofs" => Some(Fail::Create(Proofs)),
+        "write tests" => Some(Fail::Write {
+            port: OutPort::Tests,
             nth,
         }),
-        "write" => Some(Fail::Write {
-            port: out_port(port)?,
-            nth,
-        }),
+        "write report" => Some(Fail::Write { port: Report, nth }),
+        "write proofs" => Some(Fail::Write { port: Proofs, nth }),
+        "write out" => Some(Fail::Write { port: Out, nth }),
+        "write err" => Some(Fail::Write { port: ErrPort, nth }),
         _ => None,
     }
-}
-
-// Plans the failure that these words say.
-fn plan(desk: &mut MemoryDesk, words: &str) -> Result<bool, AllocError> {
-    match fail_of(words) {
-        Some(fail) => {
-            desk.fail(fail)?;
-            Ok(true)
-        }
-        None => Ok(false),
-    }
-}
-
-// Limits what one read gives.
-fn limit(desk: &mut MemoryDesk, most: &str) -> bool {
-    let most = most.parse::<usize>().unwrap_or(0);
-    if most == 0 {
-        return false;
-    }
-    desk.pieces(most);
-    true
 }
 
 // Lets a file go on with a text.
@@ -129,55 +152,180 @@ fn put_after(
     desk: &mut MemoryDesk,
     file: &str,
     text: &str,
-) -> Result<bool, AllocError> {
+) -> Result<(), AllocError> {
     let mut whole = Vec::new(alloc);
     if let Some(before) = desk.file(file) {
         whole.extend_from_slice(before)?;
     }
     whole.extend_from_slice(text.as_bytes())?;
-    desk.put(file, &whole)?;
-    Ok(true)
+    desk.put(file, &whole)
 }
 
-// A text so many times, with the number of each time in the place of `%`.
+// Adds a text with a number in the place of each `%`, and the one after in that of each `^`.
+fn push_numbered(
+    alloc: Global,
+    whole: &mut String,
+    text: &str,
+    number: u32,
+) -> Result<(), AllocError> {
+    for mark in text.chars() {
+        match mark {
+            '%' => whole.push_str(format!(in alloc; "{number}")?.as_str())?,
+            '^' => whole.push_str(format!(in alloc; "{}", number.saturating_add(1))?.as_str())?,
+            _ => whole.push(mark)?,
+        }
+    }
+    Ok(())
+}
+
+// A text so many times, with the number of each time, from 1.
 fn repeated(alloc: Global, count: u32, text: &str) -> Result<String, AllocError> {
     let mut whole = String::new(alloc);
-    for k in 1..=count {
-        match text.split_once('%') {
-            Some((before, after)) => {
-                whole.push_str(format!(in alloc; "{before}{k}{after}")?.as_str())?;
-            }
-            None => whole.push_str(text)?,
-        }
+    for number in 1..=count {
+        push_numbered(alloc, &mut whole, text, number)?;
     }
     Ok(whole)
 }
 
-fn put_times(
+// Lays on the desk what a paragraph says.
+fn lay(
     alloc: Global,
     desk: &mut MemoryDesk,
-    words: &str,
-    text: &str,
-) -> Result<bool, AllocError> {
-    let (count, file) = first_word(words);
-    let count = count.parse::<u32>().unwrap_or(0);
-    let whole = repeated(alloc, count, text)?;
-    put_after(alloc, desk, file, whole.as_str())
+    row: &Row<'_>,
+    paragraph: Paragraph<'_>,
+) -> Result<(), AllocError> {
+    let (verb, words) = first_word(paragraph.words);
+    let own = text_of(alloc, row, paragraph)?;
+    match verb {
+        "most" => {
+            desk.pieces(words.parse::<usize>().unwrap_or(1).max(1));
+            Ok(())
+        },
+        "times" => {
+            let (count, file) = first_word(words);
+            let count = count.parse::<u32>().unwrap_or(0);
+            let whole = repeated(alloc, count, own.as_str())?;
+            put_after(alloc, desk, file, whole.as_str())
+        },
+        _ => put_after(alloc, desk, words, own.as_str()),
+    }
 }
 
-// Whether the run ends with this status.
+// Lays all that a row and a run of it say on a new desk.
+fn prepare(
+    alloc: Global,
+    desk: &mut MemoryDesk,
+    row: &Row<'_>,
+    play: Play<'_>,
+) -> Result<(), AllocError> {
+    *desk = MemoryDesk::new(alloc);
+    for paragraph in &row.given {
+        lay(alloc, desk, row, *paragraph)?;
+    }
+    if !play.file.is_empty() {
+        put_after(alloc, desk, play.file, play.text)?;
+    }
+    if play.is_mute {
+        desk.fail(Fail::Write {
+            port: ErrPort,
+            nth: 1,
+        })?;
+    }
+    match fail_of(play.fails) {
+        Some(fail) => desk.fail(fail),
+        None => Ok(()),
+    }
+}
+
+// The status of a run, which leaves its desk.
+fn run_on(
+    alloc: Global,
+    desk: &mut MemoryDesk,
+    row: &Row<'_>,
+    play: Play<'_>,
+) -> Result<u8, AllocError> {
+    prepare(alloc, desk, row, play)?;
+    status_of(alloc, desk, play.words)
+}
+
+// Whether a run has this status also where the line on Err fails, which isn't written again.
+fn is_mute_alike(
+    alloc: Global,
+    row: &Row<'_>,
+    play: Play<'_>,
+    status: u8,
+) -> Result<bool, AllocError> {
+    let mut desk = MemoryDesk::new(alloc);
+    let mute = Play {
+        is_mute: true,
+        ..play
+    };
+    Ok(run_on(alloc, &mut desk, row, mute)? == status && desk.err().is_empty())
+}
+
+// Whether a run has this status, also where the line on Err fails.
+fn has_status(
+    alloc: Global,
+    desk: &mut MemoryDesk,
+    row: &Row<'_>,
+    play: Play<'_>,
+    status: &str,
+) -> Result<bool, AllocError> {
+    let found = run_on(alloc, desk, row, play)?;
+    if status.parse::<u8>() != Ok(found) {
+        return Ok(false);
+    }
+    Ok(found == 0 || is_mute_alike(alloc, row, play, found)?)
+}
+
+// Whether a text is this line, or where none is said this other text.
+fn is_said(text: &[u8], line: &str, other: &str) -> bool {
+    match text.strip_suffix(b"\n".as_slice()) {
+        Some(found) if !line.is_empty() => found == line.as_bytes(),
+        _ => line.is_empty() && text == other.as_bytes(),
+    }
+}
+
+// Whether this line or text stands on Out where the status is 0 and else on Err, and nothing on the other.
+fn says(desk: &MemoryDesk, status: &str, line: &str, other: &str) -> bool {
+    if status == "0" {
+        desk.err().is_empty() && is_said(desk.out(), line, other)
+    } else {
+        desk.out().is_empty() && is_said(desk.err(), line, other)
+    }
+}
+
+// Whether a run ends with this status, and says this line, or where none is said this text.
 fn ends(
     alloc: Global,
     desk: &mut MemoryDesk,
-    error: StandardError,
+    row: &Row<'_>,
+    play: Play<'_>,
     words: &str,
-    status: &str,
+    other: &str,
 ) -> Result<bool, AllocError> {
-    let found = match error {
-        StandardError::Fails => mute_status(alloc, desk, words)?,
-        _ => Some(status_of(alloc, desk, words)?),
-    };
-    Ok(found.is_some() && found == status.parse::<u8>().ok())
+    let (status, line) = first_word(words);
+    Ok(has_status(alloc, desk, row, play, status)? && says(desk, status, line, other))
+}
+
+// Whether the words in each line after the first give this status, and the file has the first line somewhere.
+fn words_end(
+    alloc: Global,
+    desk: &mut MemoryDesk,
+    row: &Row<'_>,
+    words: &str,
+    own: &str,
+) -> Result<bool, AllocError> {
+    let (status, file) = first_word(words);
+    let (part, list) = own.split_once('\n').unwrap_or((own, ""));
+    for words in list.lines() {
+        if !has_status(alloc, desk, row, play_of(words), status)?
+            || !is_left(desk, "has", file, part)
+        {
+            return Ok(false);
+        }
+    }
+    Ok(true)
 }
 
 // What is in a file, on Out or on Err.
@@ -189,126 +337,172 @@ fn file_of<'d>(desk: &'d MemoryDesk, name: &str) -> Option<&'d [u8]> {
     }
 }
 
-// Whether the part stands somewhere in the text.
-fn has_part(text: &[u8], part: &[u8]) -> bool {
-    for i in 0..text.len() {
-        if text[i..].starts_with(part) {
-            return true;
-        }
-    }
-    false
-}
-
 // Whether a file is left as it must be.
-fn is_left(desk: &MemoryDesk, how: &str, name: &str, text: &[u8]) -> bool {
+fn is_left(desk: &MemoryDesk, how: &str, name: &str, text: &str) -> bool {
     let Some(found) = file_of(desk, name) else {
         return how == "none";
     };
     match how {
-        "left" => found == text,
-        "begins" => found.starts_with(text),
-        "part" => has_part(found, text),
-        "closes" => found.ends_with(desk.out()),
+        "left" => found == text.as_bytes(),
+        "has" => match from_utf8(found) {
+            Ok(found) => found.contains(text),
+            Err(_) => false,
+        },
         _ => false,
     }
 }
 
-// Whether all was said that had to be, of a row that was run.
-fn is_over(stage: &Stage<'_>) -> bool {
-    stage.words.is_none()
-        && (stage.is_out_said || stage.desk.out().is_empty())
-        && (stage.is_err_said || stage.desk.err().is_empty())
-}
-
-// Begins a row after another, and says whether that one is over.
-fn begin<'a>(
-    alloc: Global,
-    stage: &mut Stage<'a>,
-    error: StandardError,
-    words: &'a str,
-) -> Result<bool, AllocError> {
-    let is_well = is_over(stage);
-    if !is_well {
-        return Ok(false);
-    }
-    stage.row = stage.row.saturating_add(1);
-    stage.desk = MemoryDesk::new(alloc);
-    stage.words = Some(words);
-    stage.is_out_said = false;
-    stage.is_err_said = false;
-    match error {
-        StandardError::FailsFirst => plan(&mut stage.desk, "write err 1"),
-        _ => Ok(true),
+// Whether a file has so many lines, the first ones of a text; none where it isn't there.
+fn is_front(found: Option<&[u8]>, lines: &str, text: &[u8]) -> bool {
+    match found {
+        Some(found) => match from_utf8(found) {
+            Ok(own) => {
+                lines.parse::<usize>() == Ok(own.lines().count())
+                    && (own.is_empty() || own.ends_with('\n'))
+                    && text.starts_with(found)
+            },
+            Err(_) => false,
+        },
+        None => lines == "-",
     }
 }
 
-// Says something of what is left. On Err is nothing where its lines fail.
-fn says(stage: &mut Stage<'_>, error: StandardError, how: &str, name: &str, text: &[u8]) -> bool {
-    if name == "err" {
-        stage.is_err_said = true;
-        if error != StandardError::Works {
-            return stage.desk.err().is_empty();
+// Whether the files that a run leaves are fronts of those of a whole run.
+fn are_fronts(desk: &MemoryDesk, whole: &MemoryDesk, lines: &str) -> bool {
+    let mut lines = lines;
+    for name in ["t", "r", "p", "out"] {
+        let (count, after) = first_word(lines);
+        lines = after;
+        if !is_front(
+            file_of(desk, name),
+            count,
+            file_of(whole, name).unwrap_or(&[]),
+        ) {
+            return false;
         }
     }
-    if name == "out" {
-        stage.is_out_said = true;
+    true
+}
+
+// The line on Err of a status.
+fn line_at(status: &str) -> &'static [u8] {
+    match status {
+        "4" => b"read fault\n",
+        "5" => b"write fault\n",
+        _ => b"",
     }
-    stage.words.is_none() && is_left(&stage.desk, how, name, text)
+}
+
+// Whether a run of which a call fails leaves what a line says: the call and its number, the status, and how many lines
+// of the tests, the report, the proofs and Out are left, of those that the last run left.
+fn fails_so(
+    alloc: Global,
+    desk: &mut MemoryDesk,
+    row: &Row<'_>,
+    whole: &MemoryDesk,
+    line: &str,
+) -> Result<bool, AllocError> {
+    let (fails, wanted) = line.split_once('|').unwrap_or((line, ""));
+    let (status, lines) = first_word(wanted);
+    let play = Play {
+        fails,
+        ..play_of(row.words)
+    };
+    let is_so = has_status(alloc, desk, row, play, status)?;
+    Ok(is_so && are_fronts(desk, whole, lines) && desk.err() == line_at(status))
+}
+
+fn fail_so(
+    alloc: Global,
+    desk: &mut MemoryDesk,
+    row: &Row<'_>,
+    lines: &str,
+) -> Result<bool, AllocError> {
+    let whole = replace(desk, MemoryDesk::new(alloc));
+    for line in lines.lines() {
+        if !fails_so(alloc, desk, row, &whole, line)? {
+            return Ok(false);
+        }
+    }
+    Ok(true)
+}
+
+// Whether what a paragraph says of a row holds.
+fn holds(
+    alloc: Global,
+    desk: &mut MemoryDesk,
+    row: &Row<'_>,
+    paragraph: Paragraph<'_>,
+) -> Result<bool, AllocError> {
+    let (verb, words) = first_word(paragraph.words);
+    let own = text_of(alloc, row, paragraph)?;
+    let own = own.as_str();
+    match verb {
+        "ends" => ends(alloc, desk, row, play_of(row.words), words, own),
+        "with" => {
+            let (file, words) = first_word(words);
+            let play = Play {
+                words: row.words,
+                file,
+                text: own,
+                fails: "",
+                is_mute: false,
+            };
+            ends(alloc, desk, row, play, words, "")
+        },
+        "words" => words_end(alloc, desk, row, words, own),
+        "fails" => fail_so(alloc, desk, row, own),
+        _ => Ok(is_left(desk, verb, words, own)),
+    }
 }
 
 // Plays a paragraph, and says whether it holds.
-fn play<'a>(
+fn take<'a>(
     alloc: Global,
-    stage: &mut Stage<'a>,
-    error: StandardError,
+    desk: &mut MemoryDesk,
+    row: &mut Row<'a>,
     text: &'a str,
 ) -> Result<bool, AllocError> {
     let Some(paragraph) = paragraph_of(text) else {
         return Ok(text.is_empty());
     };
     let (verb, words) = first_word(paragraph.words);
-    let own = stage.texts.of(paragraph)?;
     match verb {
-        "#" => Ok(true),
-        "text" => {
-            stage.texts.name(words, paragraph.lines)?;
-            Ok(true)
-        }
-        "run" => begin(alloc, stage, error, words),
-        "given" => put_after(alloc, &mut stage.desk, words, own.as_str()),
-        "times" => put_times(alloc, &mut stage.desk, words, own.as_str()),
-        "most" => Ok(limit(&mut stage.desk, words)),
-        "fail" => plan(&mut stage.desk, words),
-        "status" => match stage.words.take() {
-            Some(asked) => ends(alloc, &mut stage.desk, error, asked, words),
-            None => Ok(false),
+        "#" => {},
+        "text" => row.named.push((words, paragraph.lines))?,
+        "run" => {
+            row.words = words;
+            row.given = Vec::new(alloc);
         },
-        _ => Ok(says(stage, error, verb, words, own.as_bytes())),
+        "given" | "times" | "most" => row.given.push(paragraph)?,
+        _ => return holds(alloc, desk, row, paragraph),
     }
+    Ok(true)
 }
 
-/// The number of the first row, from 1, that doesn't hold, if one doesn't.
-pub fn first_wrong(
+// The first paragraph that doesn't hold, if one doesn't.
+fn play_all<'a>(
     alloc: Global,
-    rows: &str,
-    error: StandardError,
-) -> Result<Option<usize>, AllocError> {
-    let mut stage = Stage {
-        texts: NamedTexts::new(alloc),
-        row: 0,
-        desk: MemoryDesk::new(alloc),
-        words: None,
-        is_out_said: false,
-        is_err_said: false,
-    };
+    desk: &mut MemoryDesk,
+    row: &mut Row<'a>,
+    rows: &'a str,
+) -> Result<Option<&'a str>, AllocError> {
     for text in rows.split('~') {
-        if !play(alloc, &mut stage, error, text)? {
-            return Ok(Some(stage.row));
+        if !take(alloc, desk, row, text)? {
+            return Ok(Some(text));
         }
     }
-    Ok(if is_over(&stage) {
-        None
-    } else {
-        Some(stage.row)
-    })
+    Ok(None)
+}
+
+/// The first paragraph of these rows that doesn't hold, if one doesn't.
+pub fn first_wrong<'a>(alloc: Global, rows: &'a str) -> Result<Option<&'a str>, AllocError> {
+    let mut desk = MemoryDesk::new(alloc);
+    let mut row = Row {
+        words: "",
+        given: Vec::new(alloc),
+        named: Vec::new(alloc),
+    };
+    let _ = play_all(alloc, &mut desk, &mut row, SAMPLES)?;
+    play_all(alloc, &mut desk, &mut row, rows)
 }

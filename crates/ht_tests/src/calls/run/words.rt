@@ -1,96 +1,134 @@
-//! Words that have no command's form.
+//! Words: the forms of each command, and words that have none.
 
 pub const ROWS: &str = "~text USAGE
 usage: sim NETLIST TESTS REPORT [--start FILE], gen NETLIST TESTS REPORT PROOFS [--budget N] [--random N] [--seed S] [--start FILE] [--first FILE] [--faults FILE] [--weighted N] [--search plain|deep], check NETLIST TESTS REPORT PROOFS [--start FILE], norm NETLIST OUT, demo SIZE SEED, compact NETLIST TESTS OUT, diagnose NETLIST TESTS RESPONSES OUT, uninit NETLIST OUT [--budget N], sync NETLIST TESTS OUT [--budget N], respond NETLIST TESTS OUT [--fault N] [--start FILE], report NETLIST TESTS PROOFS REPORT [--budget N] [--start FILE]
 ~run
-~given n: SHIFT_REGISTER
+~given n < SHIFT_REGISTER
 ~given t
 1
-~status 2
+0
+0
+~ends 2 < USAGE
 ~none r
-~left err: USAGE
-~run sim n -t r
-~given n: SHIFT_REGISTER
+~# the first word is the command, and the others are too few or too many; the first `--` is left out
+~words 2 err < USAGE
+help
+Sim n t r
+sim
+sim n t
+sim n t r x
+sim -- n t r x
+sim n -t r
+sim --- t r
+sim --help
+sim --version
+norm --help
+norm n
+norm n r x
+gen n t r
+gen n t r p x
+check n t r
+compact n t
+diagnose n t r
+uninit n
+sync n r
+respond n t
+report n t p
+demo 16
+demo 0 1
+demo 20001 1
+~# a number is in digits, from its least value to its greatest; an option stands once, by its whole name, before `--`
+~words 2 err < USAGE
+gen n t r p --budget 0
+gen n t r p --budget 100001
+gen n t r p --budget=18446744073709551617
+gen n t r p --budget
+uninit n r --budget=0
+uninit n r --random 3
+gen n t r p --budget=
+gen n t r p --budget -5
+gen n t r p --budget=+5
+gen n t r p --budget 0x5
+check n t r p --start=s --start=s
+sim n t r --start -s
+gen n t r p --budget 5 --budget 5
+gen n t r p -- --budget 5
+gen n t r p --bud 5
+gen n t r p -b 5
+respond n t r --fault 0
+respond n t r --fault=655359
+gen n t r p --random x
+gen n t r p --random 100001
+gen n t r p --weighted=100001
+sim n t r --budget 5
+norm n r --start s
+gen n t r p --search wide
+gen n t r p --search Deep
+gen n t r p --first
+report n t p r --budget=0
+~# the names of files stand in any place but an option's
+~run
+~given n < SHIFT_REGISTER
 ~given t
 1
-~status 2
-~none r
-~left err: USAGE
-~run norm --help
-~given n: SHIFT_REGISTER
-~given t
+0
+0
+~given -t
 1
-~status 2
-~none r
-~left err: USAGE
-~run gen n t r
-~given n: SHIFT_REGISTER
-~given t
-1
-~status 2
-~none r
-~left err: USAGE
-~run check n t r
-~given n: SHIFT_REGISTER
-~given t
-1
-~status 2
-~none r
-~left err: USAGE
-~run gen n t r p --budget 0
-~given n: SHIFT_REGISTER
-~given t
-1
-~status 2
-~none r
-~left err: USAGE
-~run gen n t r p --budget 100001
-~given n: SHIFT_REGISTER
-~given t
-1
-~status 2
-~none r
-~left err: USAGE
-~run gen n t r p --random 100001
-~given n: SHIFT_REGISTER
-~given t
-1
-~status 2
-~none r
-~left err: USAGE
-~run demo 20001 1
-~given n: SHIFT_REGISTER
-~given t
-1
-~status 2
-~none r
-~left err: USAGE
-~run uninit n r --budget 0
-~given n: SHIFT_REGISTER
-~given t
-1
-~status 2
-~none r
-~left err: USAGE
-~run respond n t r --fault 0
-~given n: SHIFT_REGISTER
-~given t
-1
-~status 2
-~none r
-~left err: USAGE
-~run gen n t r p --search wide
-~given n: SHIFT_REGISTER
-~given t
-1
-~status 2
-~none r
-~left err: USAGE
-~run report n t p
-~given n: SHIFT_REGISTER
-~given t
-1
-~status 2
-~none r
-~left err: USAGE
+0
+0
+~given -
+0X
+~given -s
+X0
+~words 0 out
+total 6 detected 3
+sim n t r
+sim -- n t r
+sim n t r --
+sim n -- -t --r
+sim n -- t --
+~words 0 out
+total 6 detected 5
+sim n t r --start -
+sim n --start - -- -t r
+~words 0 out
+total 6 detected 4
+sim --start=-s n t r
+~words 0 out
+responses vectors 3 outputs 1
+respond n t r
+respond n --fault=3 t --start - r
+~words 0 r
+ classes 6 budget 1000
+gen n t r p
+gen n --random 5 t r p --seed=5
+uninit n r
+~words 0 r
+ classes 6 budget 5
+gen n t r p --budget 5
+gen n t --budget=5 r p
+gen --budget=005 n t r p
+gen --budget 5 -- n t r p
+uninit n --budget=5 -- r
+~words 0 r
+ classes 6 budget 100000
+gen n t r p --budget=0000000100000
+~words 0 r
+ classes 6 budget 1
+gen n t r p --budget 1
+~words 0 p
+proofs 3
+gen --search=deep n t --weighted 007 r p
+~words 0 p
+proofs 2
+gen n t r p --search plain
+~words 0 r
+sync flip-flops 2 budget 1000
+sync n t r
+sync n t --budget 1000 r
+~words 0 -
+q = DFF(a)
+norm n -
+norm -- n -
 ";
