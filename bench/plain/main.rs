@@ -14,6 +14,7 @@ mod guide;
 mod judge;
 mod parse;
 mod random;
+mod relevant;
 mod respond;
 mod search;
 mod sets;
@@ -138,6 +139,7 @@ fn generate(names: [&str; 4], budget: usize, random: usize, seed: u64) -> Result
     proofs.flush()?;
     let said = tests.grader.verdicts.iter().zip(otherwise).map(|(verdict, otherwise)| said_of(*verdict, otherwise));
     let said: Vec<Said> = said.collect();
+    eprintln!("cells evaluated {}", plan.evaluations.get());
     Ok(texts::write_report(&circuit, &list, &said, Some(budget), &mut BufWriter::new(report))?)
 }
 

@@ -3,9 +3,10 @@
 use crate::circuit::{Circuit, Rows};
 use crate::clauses::Under;
 use crate::faults::{Fault, Site};
+use crate::relevant::Relevant;
 use crate::sets::{self, Set};
 use crate::words::Value::{self, One, Unknown, Zero};
-use std::cell::RefCell;
+use std::cell::{Cell, RefCell};
 
 /// How a window starts: both machines in one state but for these flip-flops; all unknown; from a state of each machine;
 /// or one frame of the good machine alone, back to a cube of latches, with so many frames before it at most.
@@ -14,6 +15,17 @@ pub enum Start {
     Unknown,
     Pair { good: Vec<Value>, faulty: Vec<Value> },
     Back { cube: Vec<Value>, limit: u32 },
+}
+
+impl Start {
+    /// Whether the machines may differ at a latch of the first frame.
+    pub fn may_differ(&self, j: usize) -> bool {
+        match self {
+            Start::OneFrame { z } => z[j],
+            Start::Pair { good, faulty } => good[j] != faulty[j],
+            Start::Unknown | Start::Back { .. } => false,
+        }
+    }
 }
 
 /// Where a difference is looked for.
@@ -29,8 +41,8 @@ pub struct WindowPlace {
     pub spot: Spot,
 }
 
-/// How a window gets its sets: the first ones each net by itself, or from those of the circuit without a fault by events,
-/// and later ones by events; or all anew whenever they are looked at.
+/// How a window gets its sets: the first ones each net by itself, or from those of the circuit without a fault by events
+/// where a net matters, and later ones by events; or all anew whenever they are looked at.
 #[derive(Clone, Copy, PartialEq, Eq)]
 pub enum Fill {
     Whole,
@@ -42,9 +54,11 @@ pub enum Fill {
 pub struct Plan<'c> {
     pub circuit: &'c Circuit,
     fill: Fill,
-    readers: Rows,
+    pub readers: Rows,
     /// The sets before any decision, frame by frame, by how a window starts.
     bases: [RefCell<Vec<Set>>; 3],
+    /// How often a net of a frame was given its set.
+    pub evaluations: Cell<u64>,
 }
 
 impl<'c> Plan<'c> {
@@ -54,7 +68,7 @@ impl<'c> Plan<'c> {
         let gates = (0..circuit.gates() as u32)
             .flat_map(|g| circuit.args.row(g as usize).iter().map(move |net| (*net, first + g)));
         let readers = Rows::gathered(circuit.nets(), latches.chain(gates));
-        Plan { circuit, fill, readers, bases: Default::default() }
+        Plan { circuit, fill, readers, bases: Default::default(), evaluations: Cell::new(0) }
     }
 
     /// Writes the sets of a window without a fault. More frames than are asked for are kept for the next time.
@@ -130,6 +144,9 @@ pub struct Window<'c> {
     frame_rows: usize,
     low: usize,
     high: usize,
+    /// Whether every net follows events, or those that matter.
+    whole: bool,
+    relevant: Relevant,
 }
 
 impl<'c> Window<'c> {
@@ -148,6 +165,8 @@ impl<'c> Window<'c> {
             frame_rows: (plan.circuit.dffs() + plan.circuit.gates()).div_ceil(64),
             low: usize::MAX,
             high: 0,
+            whole: true,
+            relevant: Relevant::default(),
         }
     }
 
@@ -156,7 +175,7 @@ impl<'c> Window<'c> {
         self.clear(fault, frames, start);
         match self.plan.fill {
             Fill::Whole => self.fill_whole(),
-            Fill::Events => self.fill_by_events(),
+            Fill::Events => self.fill_by_events(fault),
             Fill::Anew => self.fill_whole(),
         }
     }
@@ -174,6 +193,7 @@ impl<'c> Window<'c> {
         self.frames = frames;
         self.start = start;
         self.under = None;
+        self.whole = true;
         self.trail.clear();
         self.path.clear();
         self.values.clear();
@@ -194,9 +214,13 @@ impl<'c> Window<'c> {
         }
     }
 
-    fn fill_by_events(&mut self) {
+    fn fill_by_events(&mut self, fault: Option<Fault>) {
         let circuit = self.plan.circuit;
         self.plan.copy_base(self.frames, &self.start, &mut self.cells);
+        if let Some(fault) = fault {
+            self.whole = false;
+            self.relevant.find(self.plan, fault, self.frames, &self.start);
+        }
         let other_latches: Vec<usize> = match &self.start {
             Start::OneFrame { z } => (0..z.len()).filter(|j| z[*j]).collect(),
             Start::Pair { good, .. } => (0..good.len()).collect(),
@@ -278,6 +302,7 @@ impl<'c> Window<'c> {
     /// The set that a net gets from the decisions and from what its driver reads.
     fn evaluate(&self, frame: usize, net: usize) -> Set {
         let circuit = self.plan.circuit;
+        self.plan.evaluations.set(self.plan.evaluations.get() + 1);
         let set = if net >= circuit.first_gate_net() {
             self.gate(frame, net - circuit.first_gate_net())
         } else if net < circuit.inputs {
@@ -306,12 +331,12 @@ impl<'c> Window<'c> {
         }
     }
 
-    /// Makes a flip-flop or a gate of a frame pending, by its net, if there is such a frame.
+    /// Makes a flip-flop or a gate of a frame pending, by its net, if there is such a frame and the net matters.
     #[inline(always)]
     fn touch(&mut self, frame: usize, net: usize) {
         let item = net - self.plan.circuit.inputs;
         let row = frame * self.frame_rows + item / 64;
-        if row < self.pending.len() {
+        if row < self.pending.len() && (self.whole || self.relevant.has(frame, net)) {
             self.pending[row] |= 1 << (item % 64);
             self.low = self.low.min(row);
             self.high = self.high.max(row + 1);

@@ -37,7 +37,7 @@ use Rattle.ht_inputs.specs.Inputs.{IsListed, JobBasis}
 use Rattle.ht_net.specs.declared.fault.Fault.{Fault}
 use Rattle.ht_net.specs.declared.place.Place.{Place}
 use Rattle.ht_net.specs.Netlist.{Netlist}
-use Rattle.ht_grade.specs.Detections.{AreFirstDetections}
+use Rattle.ht_proofs.specs.Detections.{AreFirstDetections}
 use Rattle.ht_texts.specs.declared.said.Said.{Said}
 use Rattle.ht_texts.specs.Verdicts.{saids_of}
 use Rattle.ht_texts.specs.Tests.{test_text}

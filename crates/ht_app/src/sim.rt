@@ -10,7 +10,7 @@ ghost use Rattle.ht_app.specs.Steps.{IsPrepared};
 
 use crate::made::Made;
 use ht_faults::collapse;
-use ht_grade::first_detections_from;
+use ht_proofs::first_detections_from;
 use ht_inputs::{RunError, read_netlist, read_stated, read_tests};
 use ht_net::{Circuit, Vectors};
 use ht_ports::Desk;

@@ -5,12 +5,12 @@ ghost use Rattle.ht_net.specs.Detection.{IsStart};
 ghost use Rattle.ht_tree.specs.Entries.{Means, Passes};
 
 use crate::abort_records::is_abort_record;
-use crate::kept_frames::KeptFrames;
 use crate::refutations::refutes;
 use crate::refutations_from::refutes_from;
 use ht_cubes::refuted;
 use ht_families::closes_by_rows;
 use ht_net::{Circuit, Fault};
+use ht_recompute::KeptFrames;
 use ht_tern::Tern;
 use ht_tree::{Entry, MAX_BUDGET};
 use std::alloc::{AllocError, Global};
@@ -85,53 +85,44 @@ pub fn entry_by_frames(
 {
     // for the proof: the circuit is well formed
     let _ = kept.circuit();
+    passes(alloc, kept, start, fault, budget, entry)
+}
+
+// Whether an entry passes, an arm for each form.
+fn passes(
+    alloc: Global,
+    kept: &mut KeptFrames,
+    start: &[Tern],
+    fault: Fault,
+    budget: u64,
+    entry: &Entry,
+) -> Result<bool, AllocError>
+    requires start { IsStart kept.old.circuit start.now }
+    requires budget { budget ≤ MAX_BUDGET }
+    ensures exact { IfOk result
+        (λ passes. IsTrue passes ↔ Passes kept.old.circuit start.now fault budget entry.now) }
+    ensures circuit { kept.new.circuit ≡ kept.old.circuit }
+{
     match entry {
-        Entry::Untestable { z, tokens } => refutes(
-            alloc,
-            kept,
-            fault,
-            z.as_slice(),
-            tokens.as_slice(),
-        ),
+        Entry::Untestable { z, tokens } => refutes(alloc, kept, fault, z, tokens),
         Entry::UntestableFrom {
             state,
             clauses,
             z,
             tokens,
-        } => refutes_from(
-            alloc,
-            kept,
-            fault,
-            state.as_slice(),
-            clauses.as_slice(),
-            z.as_slice(),
-            tokens.as_slice(),
-        ),
+        } => refutes_from(alloc, kept, fault, state, clauses, z, tokens),
         Entry::UndetectableBySets { rows } => {
             closes_by_rows(alloc, kept.circuit(), fault, start, rows.as_slice())
-        }
-        Entry::UndetectableByCubes { cubes, steps } => refuted(
-            alloc,
-            kept.circuit(),
-            fault,
-            start,
-            cubes.as_slice(),
-            steps.as_slice(),
-        ),
+        },
+        Entry::UndetectableByCubes { cubes, steps } => {
+            let (cubes, steps) = (cubes.as_slice(), steps.as_slice());
+            refuted(alloc, kept.circuit(), fault, start, cubes, steps)
+        },
         Entry::Aborted {
             told,
             walk,
             aim,
             sweep,
-        } => is_abort_record(
-            alloc,
-            kept,
-            fault,
-            budget,
-            told.as_slice(),
-            walk,
-            aim,
-            sweep.as_slice(),
-        ),
+        } => is_abort_record(alloc, kept, fault, budget, told, walk, aim, sweep),
     }
 }

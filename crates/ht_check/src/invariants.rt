@@ -6,11 +6,10 @@ ghost use Rattle.ht_tree.specs.declared.clause.Clause.{Clause};
 ghost use Rattle.ht_tree.specs.Clauses.{IsClause, literals_of_each, meets_each};
 ghost use Rattle.ht_tree.specs.Invariants.{IsClosedUnder, IsInvariant, max_clauses};
 
-use crate::clause_window::FreshClauseWindow;
-use crate::clauses::{are_clauses, are_met};
-use crate::kept_frames::KeptFrames;
-use crate::window_walks::is_complete_walk_under;
+use crate::state_clauses::{are_clauses, are_met};
+use crate::window_walks::is_complete_walk;
 use ht_net::Circuit;
+use ht_recompute::{FreshClauseWindow, KeptFrames};
 use ht_tree::{Clause, MAX_CLAUSES};
 use std::alloc::{AllocError, Global};
 
@@ -49,7 +48,7 @@ fn is_closed(
     ensures circuit { kept.new.circuit ≡ kept.old.circuit }
 {
     let window = FreshClauseWindow::closing(alloc, kept.take(alloc)?, clause, clauses)?;
-    is_complete_walk_under(alloc, kept, window, clause.tokens.as_slice())
+    is_complete_walk(alloc, kept, window, clause.tokens.as_slice())
 }
 
 // Whether each clause has a complete walk of its closing window under all of them.

@@ -3,10 +3,10 @@ ghost use Rattle.std.specs.Prelude.{◌≡◌, ◌<◌, ◌↔◌, ℕ, length, 
 ghost use Rattle.ht_tree.specs.Refutations.{Refutes};
 ghost use Rattle.ht_tree.specs.Rising.{Rises};
 
-use crate::fresh_window::FreshWindow;
-use crate::kept_frames::KeptFrames;
 use crate::window_walks::is_complete_walk;
+use ht_items::Items;
 use ht_net::Fault;
+use ht_recompute::{FreshWindow, KeptFrames};
 use ht_tree::Token;
 use std::alloc::{AllocError, Global};
 
@@ -19,18 +19,19 @@ pub fn refutes(
     alloc: Global,
     kept: &mut KeptFrames,
     fault: Fault,
-    z: &[u32],
-    tokens: &[Token],
+    z: &Items<u32>,
+    tokens: &Items<Token>,
 ) -> Result<bool, AllocError>
     ensures passes { IfOk result
         (λ passes. IsTrue passes ↔ Refutes kept.old.circuit fault z.now tokens.now) }
     ensures circuit { kept.new.circuit ≡ kept.old.circuit }
 {
+    let z = z.as_slice();
     if !names_flip_flops(z, kept.circuit().dffs()) {
         return Ok(false);
     }
     let window = FreshWindow::one_frame(alloc, kept.take(alloc)?, fault, z)?;
-    is_complete_walk(alloc, kept, window, tokens)
+    is_complete_walk(alloc, kept, window, tokens.as_slice())
 }
 
 /// Whether numbers rise and are below a count.

@@ -2,12 +2,12 @@
 ghost use Rattle.std.specs.Prelude.{◌≡◌, ◌↔◌, IfOk, IsTrue};
 ghost use Rattle.ht_tree.specs.RefutationsFrom.{RefutesFrom};
 
-use crate::clause_window::FreshClauseWindow;
 use crate::invariants::is_invariant;
-use crate::kept_frames::KeptFrames;
 use crate::refutations::names_flip_flops;
-use crate::window_walks::is_complete_walk_under;
+use crate::window_walks::is_complete_walk;
+use ht_items::Items;
 use ht_net::Fault;
+use ht_recompute::{FreshClauseWindow, KeptFrames};
 use ht_tree::{Clause, Token};
 use std::alloc::{AllocError, Global};
 
@@ -20,21 +20,23 @@ pub fn refutes_from(
     alloc: Global,
     kept: &mut KeptFrames,
     fault: Fault,
-    state: &[bool],
-    clauses: &[Clause],
-    z: &[u32],
-    tokens: &[Token],
+    state: &Items<bool>,
+    clauses: &Items<Clause>,
+    z: &Items<u32>,
+    tokens: &Items<Token>,
 ) -> Result<bool, AllocError>
     ensures passes { IfOk result (λ passes. IsTrue passes
         ↔ RefutesFrom kept.old.circuit fault state.now clauses.now z.now tokens.now) }
     ensures circuit { kept.new.circuit ≡ kept.old.circuit }
 {
+    let z = z.as_slice();
+    let clauses = clauses.as_slice();
     if !names_flip_flops(z, kept.circuit().dffs()) {
         return Ok(false);
     }
-    if !is_invariant(alloc, kept, state, clauses)? {
+    if !is_invariant(alloc, kept, state.as_slice(), clauses)? {
         return Ok(false);
     }
     let window = FreshClauseWindow::one_frame(alloc, kept.take(alloc)?, fault, z, clauses)?;
-    is_complete_walk_under(alloc, kept, window, tokens)
+    is_complete_walk(alloc, kept, window, tokens.as_slice())
 }

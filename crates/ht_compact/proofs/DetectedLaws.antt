@@ -16,7 +16,7 @@ use Rattle.ht_faults.specs.Sites.{faults_of}
 use Rattle.ht_faults.specs.Classes.{AreClasses, fault_at, is_representative, own_representatives}
 use Rattle.ht_faults.proofs.OwnLaws.{own_is_fault, own_within, representative_is_own}
 use Rattle.ht_proofs.specs.PackedView.{PackedView, GraderStandsFor, chosen_faults, verdict_at}
-use Rattle.ht_grade.specs.Detections.{place_at, AreFirstDetections}
+use Rattle.ht_proofs.specs.Detections.{place_at, AreFirstDetections}
 use Rattle.ht_compact.specs.declared.detected.DetectedFault.{DetectedFault}
 use Rattle.ht_compact.specs.Compacts.{IsDetectedBy, IsDetectedClass, AreDetectedClasses, MissesOne}
 use Rattle.ht_compact.specs.DetectedFaults.{AreDetectedFaults, AreDetections, HasRunWanted, IsDetectedFault, fault_numbers}

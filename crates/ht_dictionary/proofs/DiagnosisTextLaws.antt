@@ -1,5 +1,5 @@
 -- The text of a diagnosis, line by line.
-use Rattle.std.proofs.Common.{◌≡◌, ◌+◌, ◌++◌, ◌∷◌, ℕ, List, length, ◌∙◌, ap, arith, append_assoc}
+use Rattle.std.proofs.Common.{◌≡◌, ◌+◌, ◌++◌, ◌∷◌, ℕ, List, length, ◌∙◌, ap, arith}
 use Rattle.std.proofs.lemmas.List.FromFn.{map-range_with_len_more}
 use Rattle.ht_net.specs.Netlist.{Netlist}
 use Rattle.ht_texts.specs.Lines.{with_lf, with_lfs}
@@ -21,15 +21,3 @@ diagnosis_lines_more c representatives vectors diagnosis n =
     ap (λ lines. with_lfs (head ∷ good_line c diagnosis.good ∷ lines))
     (map-range_with_len_more line 0 n n (omega arith))
     ∙ with_lfs-push (first_diagnosis_lines c representatives vectors diagnosis n) (line n)
-
--- ---- pieces that are appended one after the other
-
-pub head_appended : (t u v w x a i b j d k lf : List ℕ) → u ≡ t ++ a ++ i → v ≡ u ++ b ++ j → w ≡ v ++ d ++ k
-    → x ≡ w ++ lf → x ≡ t ++ (a ++ i ++ b ++ j ++ d ++ k ++ lf)
-head_appended t u v w x a i b j d k lf to_u to_v to_w to_x =
-    to_x ∙ ap (λ l. l ++ lf) (to_w ∙ ap (λ l. l ++ d ++ k) (to_v ∙ ap (λ l. l ++ b ++ j) to_u)) ∙ simp append_assoc
-
-pub contradiction_appended : (t u v w a i b name : List ℕ) → u ≡ t ++ a ++ i → v ≡ u ++ b → w ≡ v ++ name
-    → w ≡ t ++ (a ++ (i ++ b ++ name))
-contradiction_appended t u v w a i b name to_u to_v to_w =
-    to_w ∙ ap (λ l. l ++ name) (to_v ∙ ap (λ l. l ++ b) to_u) ∙ simp append_assoc

@@ -1,8 +1,8 @@
 -- The text of rows is read as these rows.
-use Rattle.std.proofs.Common.{◌≡◌, ◌≢◌, ◌≤◌, ◌-◌, ◌++◌, ℕ, List, [], ◌∷◌, Bool, Option, length, map, refl, sym, subst, ◌∙◌, ap, arith}
+use Rattle.std.proofs.Common.{◌≡◌, ◌≤◌, ◌-◌, ◌++◌, ℕ, List, Bool, true, Option, length, map, refl, sym, subst, ◌∙◌, ap}
 use Rattle.std.specs.Prelude.{flat_map}
 use Rattle.std.specs.List.{All}
-use Rattle.std.proofs.lemmas.List.{length-map, map-append, take-append-drop}
+use Rattle.std.proofs.lemmas.List.{map-append, take-append-drop}
 use Rattle.std.proofs.lemmas.List.Concat.{flat_map-append}
 use Rattle.ht_ports.specs.LineRule.{max_text_bytes}
 use Rattle.ht_tern.specs.declared.tern.Tern.{Tern}
@@ -11,8 +11,8 @@ use Rattle.ht_net.specs.declared.fault.Fault.{Fault}
 use Rattle.ht_net.specs.Netlist.{Netlist}
 use Rattle.ht_net.specs.Detection.{outputs_from}
 use Rattle.ht_texts.specs.Lines.{with_lf}
-use Rattle.ht_texts.proofs.CodedLaws.{get_or-coded}
-use Rattle.ht_texts.proofs.LineLaws.{IsClean, AreClean, ends_without_cr, lines_are_lines}
+use Rattle.ht_texts.specs.SearchReports.{is_line_byte}
+use Rattle.ht_texts.proofs.LineLaws.{coded_are_lines}
 use Rattle.ht_dictionary.specs.ResponseTexts.{tern_code, row_text, IsResponseText, IsMalformedResponse}
 use Rattle.ht_dictionary.proofs.ResponseLaws.{never_both}
 use Rattle.ht_dictionary.specs.Responses.{response_text, rows_but_last, last_row}
@@ -20,29 +20,15 @@ use Rattle.ht_dictionary.proofs.RunLaws.{rows_count, rows_wide}
 
 -- ---- what is written is read
 
-value_clean : (value : Tern) → (tern_code value ≢ 10) × (tern_code value ≢ 13)
-value_clean Zero = (λ e. absurd (omega (arith, e)), λ e. absurd (omega (arith, e)))
-value_clean One = (λ e. absurd (omega (arith, e)), λ e. absurd (omega (arith, e)))
-value_clean Unk = (λ e. absurd (omega (arith, e)), λ e. absurd (omega (arith, e)))
-
-row_clean : (row : List Tern) → IsClean (row_text row)
-row_clean row = record {
-  no_lf = λ k less e.
-      let found = get_or-coded tern_code row k (omega (arith, less, length-map row tern_code)) in
-      (value_clean found.0).0 (sym found.1 ∙ e);
-  no_cr = ends_without_cr (row_text row) (λ k less e.
-      let found = get_or-coded tern_code row k (omega (arith, less, length-map row tern_code)) in
-      (value_clean found.0).1 (sym found.1 ∙ e));
-}
-
-rows_clean : (rows : List (List Tern)) → AreClean (map row_text rows)
-rows_clean [] = tt
-rows_clean (row ∷ rows) = (row_clean row, rows_clean rows)
+value_plain : (value : Tern) → is_line_byte (tern_code value) ≡ true
+value_plain Zero = refl
+value_plain One = refl
+value_plain Unk = refl
 
 pub written_is_read : (width : ℕ) (rows : List (List Tern)) → All (λ (row : List Tern). length row ≡ width) rows
     → length (response_text rows) ≤ max_text_bytes → IsResponseText width (length rows) (response_text rows) rows
 written_is_read width rows widths short = record {
-  lines = lines_are_lines (map row_text rows) (rows_clean rows);
+  lines = coded_are_lines tern_code value_plain rows;
   widths = widths;
   each = refl;
   short = short;

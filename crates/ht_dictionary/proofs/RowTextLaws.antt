@@ -3,15 +3,15 @@ use Rattle.std.proofs.Common.{◌≡◌, ◌≢◌, ◌⊎◌, ℕ, List, inl, i
 use Rattle.std.proofs.lemmas.Bool.{cases_eq}
 use Rattle.ht_tern.specs.declared.tern.Tern.{Tern}
 use Rattle.ht_tern.specs.declared.tern.Tern.TheVariants.{Zero, One, Unk}
-use Rattle.ht_texts.proofs.CodedLaws.{coded_or_none, map_injective}
+use Rattle.ht_texts.proofs.CodedLaws.{map_injective}
 use Rattle.ht_texts.proofs.VectorLaws.{tern_code_injective}
-use Rattle.ht_dictionary.specs.ResponseTexts.{tern_code, row_text, IsRowText}
+use Rattle.ht_dictionary.specs.ResponseTexts.{tern_code, row_text}
 
 pub row_text_injective : (a b : List Tern) → row_text a ≡ row_text b → a ≡ b
 row_text_injective = map_injective tern_code tern_code_injective
 
 -- a character is a value's or no value's
-value_or_none : (x : ℕ) → ((value : Tern) × (x ≡ tern_code value)) ⊎ ((value : Tern) → x ≢ tern_code value)
+pub value_or_none : (x : ℕ) → ((value : Tern) × (x ≡ tern_code value)) ⊎ ((value : Tern) → x ≢ tern_code value)
 value_or_none x = elim (cases_eq x 48) [
   | inl is_0 ↦ inl (Zero, is_0)
   | inr not_0 ↦ elim (cases_eq x 49) [
@@ -23,8 +23,3 @@ value_or_none x = elim (cases_eq x 48) [
     ]
   ]
 ]
-
--- a line is the text of one row or of none
-pub row_or_none : (width : ℕ) (line : List ℕ) → ((row : List Tern) × IsRowText width line row)
-    ⊎ ((row : List Tern) → ¬ IsRowText width line row)
-row_or_none = coded_or_none tern_code value_or_none

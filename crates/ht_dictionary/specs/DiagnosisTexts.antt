@@ -1,7 +1,6 @@
 -- The text of a diagnosis: a head line, a line for the good machine and one for each fault, and the total. Lines are
 -- without their LF.
-use Rattle.std.specs.Prelude.{ℕ, List, ◌∷◌, ◌++◌, if◌then◌else◌, length, map, Option, Some, None, is_none, count_by, codes}
-use Rattle.std.specs.Fmt.{decimal}
+use Rattle.std.specs.Prelude.{ℕ, List, [], ◌∷◌, ◌++◌, if◌then◌else◌, length, map, Option, Some, None, is_none, count_by, codes}
 use Rattle.std.specs.List.{range_with_len}
 use Rattle.ht_net.specs.declared.place.Place.{Place}
 use Rattle.ht_net.specs.Netlist.{Netlist}
@@ -9,7 +8,8 @@ use Rattle.ht_faults.specs.Sites.{faults_of}
 use Rattle.ht_faults.specs.Classes.{is_representative, own_representatives, class_count}
 use Rattle.ht_texts.specs.declared.said.Said.TheVariants.{Undetected}
 use Rattle.ht_texts.specs.Lines.{with_lf, with_lfs}
-use Rattle.ht_texts.specs.Verdicts.{place_text}
+use Rattle.ht_texts.specs.Pieces.{Piece, word, number, pieces_text}
+use Rattle.ht_texts.specs.Verdicts.{place_pieces}
 use Rattle.ht_texts.specs.Reports.{line_front, fault_line}
 use Rattle.ht_dictionary.specs.DiagnosisView.{DiagnosisView}
 use Rattle.ht_dictionary.specs.Diagnoses.{contradiction_at}
@@ -17,24 +17,24 @@ use Rattle.ht_dictionary.specs.Diagnoses.{contradiction_at}
 -- ---- the lines
 
 -- where a machine first contradicts the observation, or that it is consistent
-abbrev pub contradiction_text : Netlist → Option Place → List ℕ
-contradiction_text c None = codes "consistent"
-contradiction_text c (Some place) = codes "contradicted " ++ place_text c place
+abbrev pub contradiction_pieces : Netlist → Option Place → List Piece
+contradiction_pieces c None = word (codes "consistent") ∷ []
+contradiction_pieces c (Some place) = word (codes "contradicted ") ∷ place_pieces c place
 
 -- how many vectors were applied, and how many faults and classes there are
 abbrev pub diagnosis_head : ℕ → ℕ → ℕ → List ℕ
 diagnosis_head vectors faults classes =
-    codes "diagnosis vectors " ++ decimal vectors ++ codes " faults " ++ decimal faults
-    ++ codes " classes " ++ decimal classes
+    pieces_text (word (codes "diagnosis vectors ") ∷ number vectors ∷ word (codes " faults ") ∷ number faults
+    ∷ word (codes " classes ") ∷ number classes ∷ [])
 
 -- the good machine with its contradiction
 abbrev pub good_line : Netlist → Option Place → List ℕ
-good_line c place = codes "good " ++ contradiction_text c place
+good_line c place = pieces_text (word (codes "good ") ∷ contradiction_pieces c place)
 
 -- a representative with its contradiction; another fault has the line that it has in a report
 abbrev pub diagnosed_line : Netlist → List ℕ → ℕ → Option Place → List ℕ
 diagnosed_line c representatives i place =
-    if is_representative representatives i then line_front c i ++ contradiction_text c place
+    if is_representative representatives i then pieces_text (line_front c i ++ contradiction_pieces c place)
     else fault_line c representatives i Undetected
 
 -- the lines of the first n faults
@@ -52,8 +52,8 @@ consistent_count representatives places =
 -- how many classes there are, and of how many the representative is consistent
 abbrev pub diagnosis_total : List ℕ → List (Option Place) → List ℕ
 diagnosis_total representatives places =
-    codes "total " ++ decimal (class_count representatives) ++ codes " consistent "
-    ++ decimal (consistent_count representatives places)
+    pieces_text (word (codes "total ") ∷ number (class_count representatives) ∷ word (codes " consistent ")
+    ∷ number (consistent_count representatives places) ∷ [])
 
 -- ---- the whole
 

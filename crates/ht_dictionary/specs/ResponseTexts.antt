@@ -4,6 +4,7 @@ use Rattle.std.specs.List.{All}
 use Rattle.ht_tern.specs.declared.tern.Tern.{Tern}
 use Rattle.ht_ports.specs.LineRule.{lines_of, max_text_bytes}
 use Rattle.ht_texts.specs.Tests.{line_at, IsCoded, IsTooLong}
+use Rattle.ht_texts.specs.WrongLines.{IsFirst, IsTextOrMalformed}
 pub use Rattle.ht_texts.specs.Tests.{tern_code}
 
 -- the characters of a row, in the order of the outputs; `X` where nothing was seen
@@ -38,9 +39,8 @@ IsWrongResponse width vectors text n =
     IsNoResponse width vectors text n ⊎ IsMissingResponse vectors text n ⊎ IsTooLong text n
 
 -- The text isn't that of one row for each vector, and line n, from 1, is the first that shows it.
-pub record IsMalformedResponse (width vectors : ℕ) (text : List ℕ) (n : ℕ) : Type 0 where
-  pub wrong : IsWrongResponse width vectors text n
-  pub first : (m : ℕ) → m < n → ¬ IsWrongResponse width vectors text m
+abbrev pub IsMalformedResponse : ℕ → ℕ → List ℕ → ℕ → Type 0
+IsMalformedResponse width vectors text n = IsFirst (IsWrongResponse width vectors text) n
 
 -- the first lines of the text are those of these rows, which have so many values each
 pub record AreFirstRows (width : ℕ) (text : List ℕ) (rows : List (List Tern)) : Type 0 where
@@ -49,12 +49,6 @@ pub record AreFirstRows (width : ℕ) (text : List ℕ) (rows : List (List Tern)
   pub widths : All (λ (row : List Tern). length row ≡ width) rows
 
 -- The text is that of one list of rows, or malformed at one line: never both, and never neither.
-pub record IsResponseOrMalformed (width vectors : ℕ) (text : List ℕ) : Type 0 where
-  pub either : ((rows : List (List Tern)) × IsResponseText width vectors text rows)
-      ⊎ ((n : ℕ) × IsMalformedResponse width vectors text n)
-  pub never_both : (rows : List (List Tern)) (n : ℕ) → IsResponseText width vectors text rows
-      → ¬ IsMalformedResponse width vectors text n
-  pub one_list : (a b : List (List Tern)) → IsResponseText width vectors text a → IsResponseText width vectors text b
-      → a ≡ b
-  pub one_line : (m n : ℕ) → IsMalformedResponse width vectors text m → IsMalformedResponse width vectors text n
-      → m ≡ n
+abbrev pub IsResponseOrMalformed : ℕ → ℕ → List ℕ → Type 0
+IsResponseOrMalformed width vectors text =
+    IsTextOrMalformed (IsResponseText width vectors text) (IsMalformedResponse width vectors text)

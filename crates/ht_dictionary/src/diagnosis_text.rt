@@ -1,24 +1,22 @@
 //! The text of a diagnosis.
-ghost use Rattle.std.specs.Prelude.{◌≡◌, ◌<◌, ◌++◌, true, length, IfOk, OnOk};
-ghost use Rattle.std.specs.Fmt.{decimal};
+ghost use Rattle.std.specs.Prelude.{◌≡◌, ◌<◌, ◌++◌, length, IfOk, OnOk};
 ghost use Rattle.std.specs.Option.{ForSome};
 ghost use Rattle.ht_net.specs.Detection.{IsPlace};
 ghost use Rattle.ht_faults.specs.Sites.{faults_of};
-ghost use Rattle.ht_faults.specs.Classes.{AreClasses, class_count, is_representative};
+ghost use Rattle.ht_faults.specs.Classes.{AreClasses};
 ghost use Rattle.ht_texts.specs.Lines.{with_lf};
-ghost use Rattle.ht_texts.specs.Sites.{output_text};
+ghost use Rattle.ht_texts.specs.Pieces.{add_pieces};
 ghost use Rattle.ht_dictionary.specs.Diagnoses.{IsDiagnosisOf};
-ghost use Rattle.ht_dictionary.specs.DiagnosisTexts.{contradiction_text, diagnosis_head, good_line, diagnosed_line};
+ghost use Rattle.ht_dictionary.specs.DiagnosisTexts.{contradiction_pieces, good_line, diagnosed_line};
 ghost use Rattle.ht_dictionary.specs.DiagnosisTexts.{consistent_count, diagnosis_body, diagnosis_total};
 
 use crate::diagnosis::Diagnosis;
 use ht_faults::{Classes, FaultList};
 use ht_net::{Circuit, Place};
-use ht_texts::{Said, push_number, write_fault};
+use ht_texts::{
+    Piece, Said, count_classes, output_name, push_fault, push_line, push_line_front, push_pieces,
+};
 use std::alloc::{AllocError, Global};
-
-// what ends the line of an undetected representative
-const UNDETECTED: &[u8] = b"undetected\n";
 
 /// The text of a diagnosis without its total line, where `vectors` is how many vectors were applied: the head line
 /// `diagnosis vectors 3 faults 6 classes 6`, the good machine as `good contradicted 3 r`, and a line for each fault, as
@@ -42,23 +40,20 @@ pub fn write_diagnosis_body(
         ≡ diagnosis_body circuit.now classes.now vectors diagnosis.now) }
 {
     let mut body = Vec::new(alloc);
-    push_head(
+    push_line(
         &mut body,
-        vectors,
-        u64::from(faults.len()),
-        count_classes(classes),
+        &[
+            Piece::Word(b"diagnosis vectors "),
+            Piece::Number(vectors),
+            Piece::Word(b" faults "),
+            Piece::Number(u64::from(faults.len())),
+            Piece::Word(b" classes "),
+            Piece::Number(u64::from(count_classes(classes))),
+        ],
     )?;
     push_good(&mut body, circuit, diagnosis.good())?;
     for i in 0..faults.len() {
-        push_diagnosed(
-            alloc,
-            &mut body,
-            circuit,
-            faults,
-            classes,
-            i,
-            diagnosis.get(i),
-        )?;
+        push_diagnosed(&mut body, circuit, faults, classes, i, diagnosis.get(i))?;
     }
     Ok(body)
 }
@@ -79,21 +74,16 @@ pub fn write_diagnosis_total(
         (λ line. line.items ≡ with_lf (diagnosis_total classes.now diagnosis.now.places)) }
 {
     let mut line = Vec::new(alloc);
-    push_counted(&mut line, b"total ", count_classes(classes))?;
-    push_counted(
+    push_line(
         &mut line,
-        b" consistent ",
-        count_consistent(classes, diagnosis),
+        &[
+            Piece::Word(b"total "),
+            Piece::Number(u64::from(count_classes(classes))),
+            Piece::Word(b" consistent "),
+            Piece::Number(count_consistent(classes, diagnosis)),
+        ],
     )?;
-    line.extend_from_slice(b"\n")?;
     Ok(line)
-}
-
-// How many classes there are.
-fn count_classes(classes: &Classes) -> u64
-    ensures { result ≡ class_count classes.now }
-{
-    classes.representatives().len() as u64
 }
 
 // Of how many classes the representative is consistent.
@@ -110,18 +100,6 @@ fn count_consistent(classes: &Classes, diagnosis: &Diagnosis) -> u64
     count
 }
 
-// Appends the head line.
-fn push_head(text: &mut Vec<u8>, vectors: u64, faults: u64, classes: u64) -> Result<(), AllocError>
-    ensures { OnOk result
-        (text.new.items ≡ text.old.items ++ with_lf (diagnosis_head vectors faults classes)) }
-{
-    push_counted(text, b"diagnosis vectors ", vectors)?;
-    push_counted(text, b" faults ", faults)?;
-    push_counted(text, b" classes ", classes)?;
-    text.extend_from_slice(b"\n")?;
-    Ok(())
-}
-
 // Appends the line of the good machine.
 fn push_good(text: &mut Vec<u8>, circuit: &Circuit, place: Option<Place>) -> Result<(), AllocError>
     requires { ForSome place (IsPlace circuit.now) }
@@ -136,7 +114,6 @@ fn push_good(text: &mut Vec<u8>, circuit: &Circuit, place: Option<Place>) -> Res
 
 // Appends the line of fault `i`.
 fn push_diagnosed(
-    alloc: Global,
     text: &mut Vec<u8>,
     circuit: &Circuit,
     faults: &FaultList,
@@ -151,13 +128,10 @@ fn push_diagnosed(
     ensures { OnOk result (text.new.items
         ≡ text.old.items ++ with_lf (diagnosed_line circuit.now classes.now i place)) }
 {
-    let line = write_fault(alloc, circuit, faults, classes, i, Said::Undetected)?;
     if classes.of(i) != i {
-        text.extend_from_slice(&line)?;
-        return Ok(());
+        return push_fault(text, circuit, faults, classes, i, Said::Undetected);
     }
-    // the number and the fault stand in front of the verdict
-    text.extend_from_slice(&line[..line.len() - UNDETECTED.len()])?;
+    push_line_front(text, circuit, faults, i)?;
     push_contradiction(text, circuit, place)?;
     text.extend_from_slice(b"\n")?;
     Ok(())
@@ -171,33 +145,18 @@ fn push_contradiction(
 ) -> Result<(), AllocError>
     requires { ForSome place (IsPlace circuit.now) }
     ensures { OnOk result
-        (text.new.items ≡ text.old.items ++ contradiction_text circuit.now place) }
+        (text.new.items ≡ add_pieces text.old.items (contradiction_pieces circuit.now place)) }
 {
     let Some(place) = place else {
-        text.extend_from_slice(b"consistent")?;
-        return Ok(());
+        return text.extend_from_slice(b"consistent");
     };
-    push_counted(text, b"contradicted ", place.vector + 1)?;
-    text.extend_from_slice(b" ")?;
-    text.extend_from_slice(output_name(circuit, place.output))?;
-    Ok(())
-}
-
-// The name of the net of an output.
-fn output_name(circuit: &Circuit, output: u32) -> &[u8]
-    requires { output < length circuit.now.outputs }
-    ensures { result.now ≡ output_text circuit.now output }
-{
-    let net = circuit.output(output);
-    // for the proof: the net is one of the circuit's
-    prove!(net.0 < circuit.nets());
-    circuit.name(net)
-}
-
-// Appends a word and, after it, a number.
-fn push_counted(text: &mut Vec<u8>, word: &[u8], number: u64) -> Result<(), AllocError>
-    ensures { OnOk result (text.new.items ≡ text.old.items ++ word.now ++ decimal number) }
-{
-    text.extend_from_slice(word)?;
-    push_number(text, number)
+    push_pieces(
+        text,
+        &[
+            Piece::Word(b"contradicted "),
+            Piece::Number(place.vector + 1),
+            Piece::Word(b" "),
+            Piece::Name(output_name(circuit, place.output)),
+        ],
+    )
 }

@@ -17,8 +17,10 @@ use Rattle.ht_net.proofs.FrameLaws.{le_or_lt}
 use Rattle.ht_net.proofs.MoreToldLaws.{state_is_start}
 use Rattle.ht_net.proofs.SilenceLaws.{some_allowed}
 use Rattle.ht_faults.specs.FaultList.{no_fault}
-use Rattle.ht_faults.specs.Classes.{fault_at}
-use Rattle.ht_grade.specs.GraderView.{GraderView}
+use Rattle.ht_faults.specs.Classes.{fault_at, is_representative}
+use Rattle.ht_faults.specs.Sites.{faults_of}
+use Rattle.ht_proofs.specs.ClassGraderView.{ClassGraderStandsFor, ClassGraderView}
+use Rattle.ht_proofs.specs.Detections.{place_at}
 use Rattle.ht_tree.specs.declared.entry.Entry as recorded
 use Rattle.ht_tree.specs.declared.entry.Entry.TheVariants as entries
 use Rattle.ht_tree.specs.declared.kind.EntryKind.{EntryKind}
@@ -40,7 +42,7 @@ use Rattle.ht_engine.specs.declared.work.Work.TheVariants as work
 use Rattle.ht_engine.specs.DeepWork.{DeepWorkHolds, DetectsAfter, IsDeepWork, IsWorkBy, states_reached}
 use Rattle.ht_engine.specs.Enough.{IsEnough}
 use Rattle.ht_engine.specs.FaultWork.{IsNamedInvariant, IsWork, WorkHolds}
-use Rattle.ht_engine.specs.EngineStands.{AllHold, AreEnough, EngineStandsFor, EntryHolds, EngineView, HasSameWork, IsKindIn, IsSaid, IsUndetectedWith, Makes, MakesStep, MeansOfStep, all_first, kind_at, remaining}
+use Rattle.ht_engine.specs.EngineStands.{AllHold, AreEnough, EngineStandsFor, EntryHolds, EngineView, HasGraded, HasSameWork, IsKindIn, IsSaid, IsUndetectedWith, Makes, MakesStep, MeansOfStep, all_first, kind_at, remaining}
 use Rattle.ht_engine.specs.OneStep.{Advances, Ends, GivesEntry, GivesFirst, GivesList, IsNextUndetected, IsUndetected, IsWorkOn, said_by}
 use Rattle.ht_engine.specs.Steps.{AwaitsVerdict, Follows, IsChosen, IsNextFault, entries_of, one_more, one_vector, vectors_of_steps}
 use Rattle.ht_engine.proofs.DeepLaws.{deep_after, plain_after}
@@ -50,14 +52,32 @@ use Rattle.ht_engine.proofs.StepLaws.{awaited_before, contains_last, entries_mor
 
 pub undetected_tells : (e : EngineView) (i : ℕ) (place : Option Place) (nowhere : Bool)
     → IsOwn e.circuit e.representatives i → IsChosen e.representatives e.settings i
-    → IsFirstFrom e.circuit (fault_at e.circuit i) e.settings.start e.list place
+    → place ≡ place_at e.grader.places i
     → is_some place ≡ not nowhere → (nowhere ≡ true) ↔ IsUndetected e i
-undetected_tells e i None true own chosen first is =
-    (λ h. record { own = own; chosen = chosen; undetected = first }, λ u. refl)
-undetected_tells e i None false own chosen first is = absurd (false≢true is)
-undetected_tells e i (Some p) true own chosen first is = absurd (true≢false is)
-undetected_tells e i (Some p) false own chosen first is =
-    (λ h. absurd (false≢true h), λ u. absurd (u.undetected p.vector p.output first.0))
+undetected_tells e i None true own chosen here is =
+    (λ h. record { own = own; chosen = chosen; undetected = sym here }, λ u. refl)
+undetected_tells e i None false own chosen here is = absurd (false≢true is)
+undetected_tells e i (Some p) true own chosen here is = absurd (true≢false is)
+undetected_tells e i (Some p) false own chosen here is =
+    (λ h. absurd (false≢true h), λ u. let bad : Some p ≡ None = here ∙ u.undetected in cc)
+
+-- the place that is kept is the first detection of the vectors that are graded
+pub first_graded : (e : EngineView) (list : List (List Bool)) → HasGraded e list → (i : ℕ)
+    → IsOwn e.circuit e.representatives i
+    → IsFirstFrom e.circuit (fault_at e.circuit i) e.settings.start list (place_at e.grader.places i)
+first_graded e list graded i own =
+    let represents : is_representative e.grader.representatives i ≡ true =
+    ap (λ (l : List ℕ). is_representative l i) graded.representatives_same ∙ own.own in
+    subst (λ (c : Netlist). IsFirstFrom c (fault_at c i) e.settings.start list (place_at e.grader.places i))
+    graded.circuit
+    (graded.stands.first.first i
+    (subst (λ (c : Netlist). i < length (faults_of c)) (sym graded.circuit) own.listed) represents)
+
+-- what no vectors detect has no place
+none_kept : (c : Netlist) (fault : Fault) (start : List Tern) (list : List (List Bool)) (place : Option Place)
+    → IsFirstFrom c fault start list None → IsFirstFrom c fault start list place → place ≡ None
+none_kept c fault start list None undetected first = refl
+none_kept c fault start list (Some p) undetected first = absurd (undetected p.vector p.output first.0)
 
 -- ---- the next fault
 
@@ -68,9 +88,8 @@ module _ (e : EngineView) (steps : List Step) (s : EngineStandsFor e steps) wher
     own = u.own;
     chosen = u.chosen;
     undetected =
-        subst (λ (list : List (List Bool)). IsFirstFrom e.circuit (fault_at e.circuit i) e.settings.start list None)
-        s.list
-        u.undetected;
+        subst (IsFirstFrom e.circuit (fault_at e.circuit i) e.settings.start (vectors_of_steps steps)) u.undetected
+        (first_graded e (vectors_of_steps steps) s.graded i u.own);
     without_entry = λ h. let below = s.entered i h in absurd (omega (arith, below, from));
   }
 
@@ -78,9 +97,8 @@ module _ (e : EngineView) (steps : List Step) (s : EngineStandsFor e steps) wher
   undetected_of i a = record {
     own = a.own;
     chosen = a.chosen;
-    undetected =
-        subst (λ (list : List (List Bool)). IsFirstFrom e.circuit (fault_at e.circuit i) e.settings.start list None)
-        (sym s.list) a.undetected;
+    undetected = none_kept e.circuit (fault_at e.circuit i) e.settings.start (vectors_of_steps steps)
+        (place_at e.grader.places i) a.undetected (first_graded e (vectors_of_steps steps) s.graded i a.own);
   }
 
   pub is_next : (i : ℕ) → IsNextUndetected e i → IsNextFault e.circuit e.representatives e.settings steps i
@@ -111,6 +129,15 @@ module _ (e : EngineView) (steps : List Step) (s : EngineStandsFor e steps) wher
       let more = length-append steps (step ∷ []) in
       let given = all_given none in
       none ∙ sym (drop_all (length (steps ++ step ∷ [])) (all_first e) (omega (arith, more, given)))
+
+-- what is graded with one list more
+graded_more : (e new : EngineView) (steps : List Step) → EngineStandsFor e steps → (list : Rows)
+    → ((before : List (List Bool)) → HasGraded e before → HasGraded new (before ++ list.list)) → (after : EngineView)
+    → new ≡ after → HasGraded after (vectors_of_steps (steps ++ Vectors list ∷ []))
+graded_more e new steps s list graded after is =
+    subst (HasGraded after) (sym (vectors_more steps (Vectors list)))
+    (subst (λ (v : EngineView). HasGraded v (vectors_of_steps steps ++ list.list)) is
+    (graded (vectors_of_steps steps) s.graded))
 
 -- ---- one of the first vectors
 
@@ -146,7 +173,7 @@ module _ (e new : EngineView) (steps : List Step) (s : EngineStandsFor e steps) 
       let P : List Bool → Type 0 = λ (v : List Bool). length v ≡ e.circuit.inputs in
       subst (λ (r : Rows). AreVectors e.circuit r.list) (sym g.given) (All-cons P g.vector [] g.wide (All-nil P))
 
-  first_stands : EngineStandsFor (record e { list = e.list ++ list.list; rest = g.rest }) with_first
+  first_stands : EngineStandsFor (record e { grader = new.grader; rest = g.rest }) with_first
   first_stands =
       let same = sym (entries_with_list steps list) in
       let more : length steps + 1 ≡ length with_first =
@@ -155,8 +182,7 @@ module _ (e new : EngineView) (steps : List Step) (s : EngineStandsFor e steps) 
         latches = s.latches;
         are = one_more steps (Vectors list) s.are first_follows;
         rest = sym rest_is ∙ ap (λ (k : ℕ). drop k (all_first e)) more;
-        list =
-            ap (λ (x : List (List Bool)). x ++ list.list) s.list ∙ sym (vectors_more steps (Vectors list));
+        graded = graded_more e new steps s list g.graded (record e { grader = new.grader; rest = g.rest }) g.after;
         kinds = λ i l. subst (λ (entries : List Numbered). IsKindIn entries i (kind_at e i)) same (s.kinds i l);
         done = λ k l a. s.done k l
             (awaited_before e.circuit e.representatives e.settings steps (Vectors list) k a);
@@ -193,14 +219,12 @@ module _ (e new : EngineView) (steps : List Step) (s : EngineStandsFor e steps) 
     next = is_next e steps s g.fault g.next;
     invariant = e.named_invariant;
     found = s.found;
-    given = subst (λ (before : List (List Bool)). IsWorkBy e.settings.search e.circuit (fault_at e.circuit g.fault)
-        e.settings before e.named_invariant (work.List list)) s.list g.work.given;
+    given = (g.work (vectors_of_steps steps) s.graded).given;
   })
 
   -- the list detects the fault after the vectors of the steps
   holds : DetectsAfter e.circuit (fault_at e.circuit g.fault) e.settings.start (vectors_of_steps steps) list
-  holds = subst (λ (before : List (List Bool)). DetectsAfter e.circuit (fault_at e.circuit g.fault) e.settings.start
-      before list) s.list g.work.holds
+  holds = (g.work (vectors_of_steps steps) s.graded).holds
 
   pub list_useful : MeansOfStep e steps (Vectors list)
   list_useful = λ all. record {
@@ -225,15 +249,15 @@ module _ (e new : EngineView) (steps : List Step) (s : EngineStandsFor e steps) 
         (awaited_before e.circuit e.representatives e.settings steps (Vectors list) k a)
   ]
 
-  list_stands : EngineStandsFor (record e { list = e.list ++ list.list; place = g.fault + 1 }) longer
+  list_stands : EngineStandsFor (record e { grader = new.grader; place = g.fault + 1 }) longer
   list_stands =
       let same = sym (entries_with_list steps list) in
       record {
         latches = s.latches;
         are = one_more steps (Vectors list) s.are list_follows;
         rest = none_more e steps s (Vectors list) g.none_left;
-        list =
-            ap (λ (x : List (List Bool)). x ++ list.list) s.list ∙ sym (vectors_more steps (Vectors list));
+        graded = graded_more e new steps s list g.graded (record e { grader = new.grader; place = g.fault + 1 })
+            g.after;
         kinds = λ i l. subst (λ (entries : List Numbered). IsKindIn entries i (kind_at e i)) same (s.kinds i l);
         done = list_done;
         entered = λ k h.
@@ -242,7 +266,7 @@ module _ (e new : EngineView) (steps : List Step) (s : EngineStandsFor e steps) 
             omega (arith, below, from);
         wide = subst (AreVectors e.circuit) (sym (vectors_more steps (Vectors list)))
             (All-append (λ (v : List Bool). length v ≡ e.circuit.inputs) (vectors_of_steps steps) list.list s.wide
-            g.work.holds.wide);
+            holds.wide);
         pass = subst (AllHold e.circuit e.settings) same s.pass;
         found = s.found;
         holds = s.holds;
@@ -310,11 +334,7 @@ module _ (e new : EngineView) (steps : List Step) (s : EngineStandsFor e steps) 
     next = is_next e steps s fault g.next;
     invariant = e.named_invariant;
     found = s.found;
-    given = (
-      refl,
-      subst (λ (before : List (List Bool)). IsWorkBy e.settings.search e.circuit (fault_at e.circuit fault) e.settings
-          before e.named_invariant (work.Entry made)) s.list g.work.given,
-    );
+    given = (refl, (g.work (vectors_of_steps steps) s.graded).given);
   })
 
   abbrev kinds_now : List (Option EntryKind)
@@ -362,9 +382,9 @@ module _ (e new : EngineView) (steps : List Step) (s : EngineStandsFor e steps) 
 
   entry_holds : EntryHolds e.circuit e.settings fault made
   entry_holds = (
-    g.work.holds,
-    is_allowed e.settings.search e.circuit (fault_at e.circuit fault) e.settings e.list e.named_invariant s.found made
-        g.work.given,
+    (g.work (vectors_of_steps steps) s.graded).holds,
+    is_allowed e.settings.search e.circuit (fault_at e.circuit fault) e.settings (vectors_of_steps steps)
+        e.named_invariant s.found made (g.work (vectors_of_steps steps) s.graded).given,
   )
 
   entry_stands : EngineStandsFor (record e { kinds = kinds_now; place = fault + 1 }) more
@@ -374,7 +394,7 @@ module _ (e new : EngineView) (steps : List Step) (s : EngineStandsFor e steps) 
         latches = s.latches;
         are = one_more steps (Entry fault made) s.are entry_follows;
         rest = none_more e steps s (Entry fault made) g.none_left;
-        list = s.list ∙ sym (vectors_with_entry steps fault made);
+        graded = subst (HasGraded e) (sym (vectors_with_entry steps fault made)) s.graded;
         kinds = λ i l. subst (λ (entries : List Numbered). IsKindIn entries i (get_or kinds_now i None)) same
             (kinds_more i l);
         done = entry_done;
@@ -387,7 +407,7 @@ module _ (e new : EngineView) (steps : List Step) (s : EngineStandsFor e steps) 
         holds = s.holds;
         enough = subst (AreEnough e.circuit e.settings.budget e.named_invariant.clauses) same
             (all_more (λ k made. IsEnough e.circuit (fault_at e.circuit k) e.settings.budget e.named_invariant.clauses
-            (work.Entry made)) s.enough g.work.enough);
+            (work.Entry made)) s.enough (g.work (vectors_of_steps steps) s.graded).enough);
       }
 
   pub entry_made : MakesStep e new steps (Entry fault made)
@@ -407,7 +427,7 @@ end_made e new steps s g =
       latches = s.latches;
       are = s.are;
       rest = s.rest;
-      list = s.list;
+      graded = s.graded;
       kinds = s.kinds;
       done = λ i l. last i;
       entered = λ i h. let below = s.entered i h in let within = g.within in omega (arith, below, within);
@@ -437,22 +457,21 @@ means old new steps s (Vectors list) (inr g) = list_useful old new steps s list 
 means old new steps s (Entry fault made) g = entry_holds old new steps s fault made g
 means old new steps s Finished g = tt
 
-same_by : (old new : EngineView) (list : List (List Bool)) (kinds : List (Option EntryKind)) (place : ℕ)
-    (rest : List (List Bool)) → new ≡ record old { list = list; kinds = kinds; place = place; rest = rest }
+same_by : (old new : EngineView) (grader : ClassGraderView) (kinds : List (Option EntryKind)) (place : ℕ)
+    (rest : List (List Bool)) → new ≡ record old { grader = grader; kinds = kinds; place = place; rest = rest }
     → HasSameWork old new
-same_by old new list kinds place rest is = record {
+same_by old new grader kinds place rest is = record {
   circuit = ap (λ (v : EngineView). v.circuit) is;
   representatives = ap (λ (v : EngineView). v.representatives) is;
   settings = ap (λ (v : EngineView). v.settings) is;
 }
 
 pub same_work : (old new : EngineView) (step : Step) → Advances old new step → HasSameWork old new
-same_work old new (Vectors list) (inl g) = same_by old new (old.list ++ list.list) old.kinds old.place g.rest g.after
-same_work old new (Vectors list) (inr g) =
-    same_by old new (old.list ++ list.list) old.kinds (g.fault + 1) old.rest g.after
+same_work old new (Vectors list) (inl g) = same_by old new new.grader old.kinds old.place g.rest g.after
+same_work old new (Vectors list) (inr g) = same_by old new new.grader old.kinds (g.fault + 1) old.rest g.after
 same_work old new (Entry fault made) g =
-    same_by old new old.list (set old.kinds fault (Some (kind_of made))) (fault + 1) old.rest g.after
-same_work old new Finished g = same_by old new old.list old.kinds (length old.representatives) old.rest g.after
+    same_by old new old.grader (set old.kinds fault (Some (kind_of made))) (fault + 1) old.rest g.after
+same_work old new Finished g = same_by old new old.grader old.kinds (length old.representatives) old.rest g.after
 
 -- one of the first vectors less, or a place further
 fewer_left : (old new : EngineView) (vector : List Bool) → old.rest ≡ vector ∷ new.rest → new.place ≡ old.place
@@ -495,147 +514,126 @@ said_with c start steps i (Some kind.Undetectable) is = is
 said_with c start steps i (Some kind.Aborted) is = is
 
 pub said_is : (e : EngineView) (steps : List Step) → EngineStandsFor e steps → (i : ℕ) → i < length e.representatives
-    → IsFirstFrom e.circuit (fault_at e.circuit i) e.settings.start e.list None
+    → IsOwn e.circuit e.representatives i → None ≡ place_at e.grader.places i
     → (kind : Option EntryKind) → kind_at e i ≡ kind → IsSaid e.circuit e.settings.start steps i (said_by kind)
-said_is e steps s i l first kind at =
+said_is e steps s i l own here kind at =
     let is : IsUndetectedWith e.circuit e.settings.start steps i kind = record {
-      undetected = subst
-          (λ (list : List (List Bool)). IsFirstFrom e.circuit (fault_at e.circuit i) e.settings.start list None) s.list
-          first;
+      undetected = subst (IsFirstFrom e.circuit (fault_at e.circuit i) e.settings.start (vectors_of_steps steps))
+          (sym here) (first_graded e (vectors_of_steps steps) s.graded i own);
       kind_is = subst (IsKindIn (entries_of steps) i) at (s.kinds i l);
     } in
     said_with e.circuit e.settings.start steps i kind is
 
 pub said_detected : (e : EngineView) (steps : List Step) → EngineStandsFor e steps → (i : ℕ) (place : Place)
-    → IsFirstFrom e.circuit (fault_at e.circuit i) e.settings.start e.list (Some place)
+    → IsOwn e.circuit e.representatives i → Some place ≡ place_at e.grader.places i
     → IsFirstFrom e.circuit (fault_at e.circuit i) e.settings.start (vectors_of_steps steps) (Some place)
-said_detected e steps s i place first =
-    subst (λ (list : List (List Bool)). IsFirstFrom e.circuit (fault_at e.circuit i) e.settings.start list (Some place))
-    s.list
-    first
+said_detected e steps s i place own here =
+    subst (IsFirstFrom e.circuit (fault_at e.circuit i) e.settings.start (vectors_of_steps steps)) (sym here)
+    (first_graded e (vectors_of_steps steps) s.graded i own)
 
 -- ---- what the fields say of the value
 
-module _ (e now : EngineView) (listed : List Fault) (grader : GraderView) (marks : List Bool)
-    (is : IsEngine e listed grader marks) (at : e ≡ now) (same : grader.list ≡ e.list) where
-  known : IsEngine now listed grader marks
-  known = subst (λ (v : EngineView). IsEngine v listed grader marks) at is
+module _ (e now : EngineView) (listed : List Fault) (marks : List Bool) (is : IsEngine e listed marks) (at : e ≡ now)
+  where
+    known : IsEngine now listed marks
+    known = subst (λ (v : EngineView). IsEngine v listed marks) at is
 
-  pub own_of : (i r : ℕ) → i < length now.representatives → r ≡ get_or e.representatives i 0 → r ≡ i
-      → IsOwn now.circuit now.representatives i
-  own_of i r l here own =
-      let every = known.classes.every in
-      record {
-        listed = omega (arith, l, every);
-        own = eq-eqb (get_or now.representatives i 0) i
-            (ap (λ (v : EngineView). get_or v.representatives i 0) (sym at) ∙ (sym here ∙ own));
+    pub own_of : (i r : ℕ) → i < length now.representatives → r ≡ get_or e.representatives i 0 → r ≡ i
+        → IsOwn now.circuit now.representatives i
+    own_of i r l here own =
+        let every = known.classes.every in
+        record {
+          listed = omega (arith, l, every);
+          own = eq-eqb (get_or now.representatives i 0) i
+              (ap (λ (v : EngineView). get_or v.representatives i 0) (sym at) ∙ (sym here ∙ own));
+        }
+
+    -- a fault that is marked is to be worked on
+    pub chosen_of : (i : ℕ) (mark : Bool) → i < length now.representatives → mark ≡ get_or marks i mark → mark ≡ true
+        → IsChosen now.representatives now.settings i
+    chosen_of i mark l got is =
+        let each = known.marks.each in
+        (known.marks.chosen i l).0
+        (get_or_default marks i false mark (omega (arith, l, each)) ∙ (sym got ∙ is))
+
+    pub room_of : (i : ℕ) → IsOwn now.circuit now.representatives i → i < length now.kinds
+    room_of i own =
+        let every = known.classes.every in
+        let kinds = known.kinds in
+        let below = own.listed in
+        omega (arith, every, kinds, below)
+
+    pub count_of : (i : ℕ) → IsOwn now.circuit now.representatives i → i < length now.representatives
+    count_of i own = let every = known.classes.every in let below = own.listed in omega (arith, every, below)
+
+    pub kept_kind : (i : ℕ) (kind : Option EntryKind) → IsOwn now.circuit now.representatives i
+        → kind ≡ get_or e.kinds i kind → kind_at now i ≡ kind
+    kept_kind i kind own is =
+        get_or_default now.kinds i None kind (room_of i own)
+        ∙ (ap (λ (v : EngineView). get_or v.kinds i kind) (sym at) ∙ sym is)
+
+    pub fault_of : (i : ℕ) (f : Fault) → f ≡ get_or listed i no_fault → f ≡ fault_at now.circuit i
+    fault_of i f got = got ∙ ap (λ (l : List Fault). get_or l i no_fault) known.faults
+
+    -- the states of the grader are those to which the vectors that are graded lead
+    pub state_of : (fault : Netlist → Option Fault) (list : List (List Bool)) (state : List Tern)
+        → ((start : List Tern) (list : List (List Bool)) → ClassGraderStandsFor e.grader start list
+        → state ≡ state_from e.grader.machines.circuit (fault e.grader.machines.circuit) start list)
+        → HasGraded now list → state ≡ state_from now.circuit (fault now.circuit) now.settings.start list
+    state_of fault list state reached graded =
+        let here : HasGraded e list = subst (λ (v : EngineView). HasGraded v list) (sym at) graded in
+        reached e.settings.start list here.stands
+        ∙ (ap (λ (c : Netlist). state_from c (fault c) e.settings.start list) here.circuit
+        ∙ ap (λ (v : EngineView). state_from v.circuit (fault v.circuit) v.settings.start list) at)
+
+    -- they have a value for each latch
+    pub state_each : (state : List Tern) → IsStart e.grader.machines.circuit state → IsStart now.circuit state
+    state_each state each =
+        subst (λ (v : EngineView). IsStart v.circuit state) at
+        (subst (λ (c : Netlist). IsStart c state) is.circuit each)
+
+    -- what holds of the work on a listed fault, with bases of the engine's circuit
+    of_work : (P : Netlist → Fault → Settings → Invariant → Type 0) (bases : Netlist) (i : ℕ) (f : Fault)
+        → bases ≡ e.circuit → f ≡ get_or listed i no_fault → P bases f e.settings e.named_invariant
+        → P now.circuit (fault_at now.circuit i) now.settings now.named_invariant
+    of_work P bases i f b got h =
+        subst (λ (v : EngineView). P v.circuit (fault_at now.circuit i) v.settings v.named_invariant) at
+        (subst (λ (f : Fault). P e.circuit f e.settings e.named_invariant) (fault_of i f got)
+        (subst (λ (n : Netlist). P n f e.settings e.named_invariant) b h))
+
+    module _ (bases : Netlist) (i : ℕ) (f : Fault) (b : bases ≡ e.circuit) (got : f ≡ get_or listed i no_fault) where
+      abbrev fault : Fault
+      fault = fault_at now.circuit i
+
+      -- what the plain work gives, where the search is plain
+      pub plain_on : now.settings.search ≡ Plain → (w : Work) → IsWork bases f e.settings.budget e.named_invariant w
+          → WorkHolds bases f e.settings.budget w
+          → IsEnough bases f e.settings.budget e.named_invariant.clauses w → IsWorkOn now i w
+      plain_on plain w answer holds enough = λ before graded. record {
+        given = subst (λ (search : Search). IsWorkBy search now.circuit fault now.settings before now.named_invariant w)
+            (sym plain) (of_work (λ n f s invariant. IsWork n f s.budget invariant w) bases i f b got answer);
+        holds = plain_after now.circuit fault now.settings known.latches before w
+            (of_work (λ n f s invariant. WorkHolds n f s.budget w) bases i f b got holds);
+        enough = of_work (λ n f s invariant. IsEnough n f s.budget invariant.clauses w) bases i f b got enough;
       }
 
-  -- a fault that is marked is to be worked on
-  pub chosen_of : (i : ℕ) (mark : Bool) → i < length now.representatives → mark ≡ get_or marks i mark → mark ≡ true
-      → IsChosen now.representatives now.settings i
-  chosen_of i mark l got is =
-      let each = known.marks.each in
-      (known.marks.chosen i l).0
-      (get_or_default marks i false mark (omega (arith, l, each)) ∙ (sym got ∙ is))
-
-  pub detection_of : (i : ℕ) (place : Option Place)
-      → IsFirstFrom grader.circuit (fault_at grader.circuit i) grader.start grader.list place
-      → IsFirstFrom now.circuit (fault_at now.circuit i) now.settings.start now.list place
-  detection_of i place first =
-      let list : grader.list ≡ now.list = same ∙ ap (λ (v : EngineView). v.list) at in
-      subst (λ (c : Netlist). IsFirstFrom c (fault_at c i) now.settings.start now.list place) known.circuit
-      (subst (λ (s : List Tern). IsFirstFrom grader.circuit (fault_at grader.circuit i) s now.list place) known.start
-      (subst (λ (l : List (List Bool)). IsFirstFrom grader.circuit (fault_at grader.circuit i) grader.start l place)
-      list first))
-
-  pub room_of : (i : ℕ) → IsOwn now.circuit now.representatives i → i < length now.kinds
-  room_of i own =
-      let every = known.classes.every in
-      let kinds = known.kinds in
-      let below = own.listed in
-      omega (arith, every, kinds, below)
-
-  pub count_of : (i : ℕ) → IsOwn now.circuit now.representatives i → i < length now.representatives
-  count_of i own = let every = known.classes.every in let below = own.listed in omega (arith, every, below)
-
-  pub kept_kind : (i : ℕ) (kind : Option EntryKind) → IsOwn now.circuit now.representatives i
-      → kind ≡ get_or e.kinds i kind → kind_at now i ≡ kind
-  kept_kind i kind own is =
-      get_or_default now.kinds i None kind (room_of i own)
-      ∙ (ap (λ (v : EngineView). get_or v.kinds i kind) (sym at) ∙ sym is)
-
-  pub fault_of : (i : ℕ) (f : Fault) → f ≡ get_or listed i no_fault → f ≡ fault_at now.circuit i
-  fault_of i f got = got ∙ ap (λ (l : List Fault). get_or l i no_fault) known.faults
-
-  -- what the engine's vectors don't detect the grader's don't
-  pub grader_detection : (i : ℕ) (place : Option Place)
-      → IsFirstFrom now.circuit (fault_at now.circuit i) now.settings.start now.list place
-      → IsFirstFrom grader.circuit (fault_at grader.circuit i) grader.start grader.list place
-  grader_detection i place first =
-      let list : grader.list ≡ now.list = same ∙ ap (λ (v : EngineView). v.list) at in
-      subst (λ (l : List (List Bool)). IsFirstFrom grader.circuit (fault_at grader.circuit i) grader.start l place)
-      (sym list)
-      (subst (λ (s : List Tern). IsFirstFrom grader.circuit (fault_at grader.circuit i) s now.list place)
-      (sym known.start)
-      (subst (λ (c : Netlist). IsFirstFrom c (fault_at c i) now.settings.start now.list place) (sym known.circuit)
-      first))
-
-  -- the states of the grader are those to which the engine's vectors lead
-  pub state_of : (fault : Netlist → Option Fault)
-      → state_from grader.circuit (fault grader.circuit) grader.start grader.list
-      ≡ state_from now.circuit (fault now.circuit) now.settings.start now.list
-  state_of fault = λ k. state_from (known.circuit k) (fault (known.circuit k)) (known.start k)
-      ((same ∙ ap (λ (v : EngineView). v.list) at) k)
-
-  -- they have a value for each latch
-  pub reached_long : (bases : Netlist) (fault : Option Fault) (state : List Tern) → bases ≡ e.circuit
-      → state ≡ state_from now.circuit fault now.settings.start now.list → IsStart bases state
-  reached_long bases fault state b state_is =
-      subst (λ (n : Netlist). IsStart n state) (sym (b ∙ ap (λ (v : EngineView). v.circuit) at))
-      (subst (IsStart now.circuit) (sym state_is)
-      (state_is_start now.circuit fault now.settings.start now.list known.latches))
-
-  -- what holds of the work on a listed fault, with bases of the engine's circuit
-  of_work : (P : Netlist → Fault → Settings → Invariant → Type 0) (bases : Netlist) (i : ℕ) (f : Fault)
-      → bases ≡ e.circuit → f ≡ get_or listed i no_fault → P bases f e.settings e.named_invariant
-      → P now.circuit (fault_at now.circuit i) now.settings now.named_invariant
-  of_work P bases i f b got h =
-      subst (λ (v : EngineView). P v.circuit (fault_at now.circuit i) v.settings v.named_invariant) at
-      (subst (λ (f : Fault). P e.circuit f e.settings e.named_invariant) (fault_of i f got)
-      (subst (λ (n : Netlist). P n f e.settings e.named_invariant) b h))
-
-  module _ (bases : Netlist) (i : ℕ) (f : Fault) (b : bases ≡ e.circuit) (got : f ≡ get_or listed i no_fault) where
-    abbrev fault : Fault
-    fault = fault_at now.circuit i
-
-    -- what the plain work gives, where the search is plain
-    pub plain_on : now.settings.search ≡ Plain → (w : Work) → IsWork bases f e.settings.budget e.named_invariant w
-        → WorkHolds bases f e.settings.budget w
-        → IsEnough bases f e.settings.budget e.named_invariant.clauses w → IsWorkOn now i w
-    plain_on plain w answer holds enough = record {
-      given = subst (λ (search : Search). IsWorkBy search now.circuit fault now.settings now.list now.named_invariant w)
-          (sym plain) (of_work (λ n f s invariant. IsWork n f s.budget invariant w) bases i f b got answer);
-      holds = plain_after now.circuit fault now.settings known.latches now.list w
-          (of_work (λ n f s invariant. WorkHolds n f s.budget w) bases i f b got holds);
-      enough = of_work (λ n f s invariant. IsEnough n f s.budget invariant.clauses w) bases i f b got enough;
-    }
-
-    -- what the deep work gives from the states reached, where the search is deep
-    pub deep_on : now.settings.search ≡ Deep → (good faulty : List Tern)
-        → good ≡ state_from now.circuit None now.settings.start now.list
-        → faulty ≡ state_from now.circuit (Some fault) now.settings.start now.list → (w : Work)
-        → IsDeepWork bases f e.settings (window.state_pair good faulty) e.named_invariant w
-        → DeepWorkHolds bases f e.settings good faulty w
-        → IsEnough bases f e.settings.budget e.named_invariant.clauses w → IsWorkOn now i w
-    deep_on deep good faulty good_is faulty_is w answer holds enough = record {
-      given = subst (λ (search : Search). IsWorkBy search now.circuit fault now.settings now.list now.named_invariant w)
-          (sym deep)
-          (subst (λ (states : window.Start). IsDeepWork now.circuit fault now.settings states now.named_invariant w)
-          (λ k. window.state_pair (good_is k) (faulty_is k))
-          (of_work (λ n f s invariant. IsDeepWork n f s (window.state_pair good faulty) invariant w) bases i f b got
-          answer));
-      holds = deep_after now.circuit fault now.settings known.latches now.list good faulty good_is faulty_is w
-          (of_work (λ n f s invariant. DeepWorkHolds n f s good faulty w) bases i f b got holds);
-      enough = of_work (λ n f s invariant. IsEnough n f s.budget invariant.clauses w) bases i f b got enough;
-    }
+      -- what the deep work gives from the states reached, where the search is deep
+      pub deep_on : now.settings.search ≡ Deep → (good faulty : List Tern)
+          → ((list : List (List Bool)) → HasGraded now list → good ≡ state_from now.circuit None now.settings.start list)
+          → ((list : List (List Bool)) → HasGraded now list
+          → faulty ≡ state_from now.circuit (Some fault) now.settings.start list) → (w : Work)
+          → IsDeepWork bases f e.settings (window.state_pair good faulty) e.named_invariant w
+          → DeepWorkHolds bases f e.settings good faulty w
+          → IsEnough bases f e.settings.budget e.named_invariant.clauses w → IsWorkOn now i w
+      deep_on deep good faulty good_is faulty_is w answer holds enough = λ before graded. record {
+        given = subst (λ (search : Search). IsWorkBy search now.circuit fault now.settings before now.named_invariant w)
+            (sym deep)
+            (subst (λ (states : window.Start). IsDeepWork now.circuit fault now.settings states now.named_invariant w)
+            (λ k. window.state_pair (good_is before graded k) (faulty_is before graded k))
+            (of_work (λ n f s invariant. IsDeepWork n f s (window.state_pair good faulty) invariant w) bases i f b got
+            answer));
+        holds = deep_after now.circuit fault now.settings known.latches before good faulty (good_is before graded)
+            (faulty_is before graded) w
+            (of_work (λ n f s invariant. DeepWorkHolds n f s good faulty w) bases i f b got holds);
+        enough = of_work (λ n f s invariant. IsEnough n f s.budget invariant.clauses w) bases i f b got enough;
+      }

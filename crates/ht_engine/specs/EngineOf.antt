@@ -4,7 +4,6 @@ use Rattle.ht_net.specs.declared.fault.Fault.{Fault}
 use Rattle.ht_net.specs.Detection.{IsStart}
 use Rattle.ht_faults.specs.Sites.{faults_of}
 use Rattle.ht_faults.specs.Classes.{AreClasses}
-use Rattle.ht_grade.specs.GraderView.{GraderView}
 use Rattle.ht_texts.specs.SearchReports.{IsBudget}
 use Rattle.ht_engine.specs.declared.engine.Engine.TheInside.{Inside}
 use Rattle.ht_engine.specs.EngineStands.{EngineView}
@@ -19,7 +18,7 @@ engine_of a = record {
   representatives = a.classes.now;
   settings = a.settings.now;
   named_invariant = a.named_invariant;
-  list = a.grader.list;
+  grader = a.grader;
   kinds = a.kinds.items;
   place = a.place;
   rest = rest_of a.first;
@@ -28,12 +27,11 @@ engine_of a = record {
 
 -- The faults and the grader are the circuit's, each fault has a place for its kind and a mark, and the invariant is the
 -- one that is found.
-pub record IsEngine (e : EngineView) (listed : List Fault) (grader : GraderView) (marked : List Bool) : Type 0 where
+pub record IsEngine (e : EngineView) (listed : List Fault) (marked : List Bool) : Type 0 where
   pub faults : listed ≡ faults_of e.circuit
   pub classes : AreClasses e.circuit e.representatives
-  pub circuit : grader.circuit ≡ e.circuit
-  pub representatives : grader.representatives ≡ e.representatives
-  pub start : grader.start ≡ e.settings.start
+  pub circuit : e.grader.machines.circuit ≡ e.circuit
+  pub representatives : e.grader.representatives ≡ e.representatives
   pub budget : IsBudget e.settings.budget
   pub kinds : length e.kinds ≡ length e.representatives
   pub place : e.place ≤ length e.representatives
@@ -44,6 +42,6 @@ pub record IsEngine (e : EngineView) (listed : List Fault) (grader : GraderView)
 
 -- The fields of an engine, with bases of its circuit, and first vectors that have a bit for each input.
 pub record AreEngineFields (a : Inside) : Type 0 where
-  pub engine : IsEngine (engine_of a) a.faults.now a.grader a.chosen.items
+  pub engine : IsEngine (engine_of a) a.faults.now a.chosen.items
   pub bases : a.bases.circuit ≡ a.circuit.now
   pub width : a.first.width ≡ a.circuit.now.inputs

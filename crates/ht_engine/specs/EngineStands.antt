@@ -5,6 +5,7 @@ use Rattle.ht_tern.specs.declared.tern.Tern.{Tern}
 use Rattle.ht_net.specs.Netlist.{Netlist}
 use Rattle.ht_net.specs.Detection.{DetectsFrom, IsFirstFrom, IsStart}
 use Rattle.ht_faults.specs.Classes.{fault_at}
+use Rattle.ht_proofs.specs.ClassGraderView.{ClassGraderStandsFor, ClassGraderView}
 use Rattle.ht_tree.specs.Entries.{AllowsEntry, Passes, kind_of}
 use Rattle.ht_tree.specs.Reached.{AreVectors}
 use Rattle.ht_texts.specs.declared.said.Said.{Said}
@@ -32,9 +33,9 @@ pub record EngineView : Type 0 where
   pub settings : Settings
   -- the invariant of the state that is named: the start, with 0 where it is unknown
   pub named_invariant : Invariant
-  -- what it keeps of the steps so far: their vectors, the kind of each fault's entry, and the number of the first fault
-  -- that may still await its verdict
-  pub list : List (List Bool)
+  -- what it keeps of the steps so far: what their vectors detect, the kind of each fault's entry, and the number of the
+  -- first fault that may still await its verdict
+  pub grader : ClassGraderView
   pub kinds : List (Option EntryKind)
   pub place : ℕ
   -- the first vectors that are left
@@ -72,13 +73,24 @@ abbrev pub AreEnough : Netlist → ℕ → List Clause → List Numbered → Typ
 AreEnough c budget clauses entries =
     All (λ (e : Numbered). IsEnough c (fault_at c (e.number - 1)) budget clauses (work.Entry e.entry)) entries
 
+-- A grader of the classes of a circuit stands for these vectors from a start.
+pub record Grades (c : Netlist) (representatives : List ℕ) (start : List Tern) (list : List (List Bool))
+    (grader : ClassGraderView) : Type 0 where
+  pub circuit : grader.machines.circuit ≡ c
+  pub representatives_same : grader.representatives ≡ representatives
+  pub stands : ClassGraderStandsFor grader start list
+
+-- The vectors that an engine has graded.
+abbrev pub HasGraded : EngineView → List (List Bool) → Type 0
+HasGraded e list = Grades e.circuit e.representatives e.settings.start list e.grader
+
 -- The engine stands for these steps: what it keeps is theirs. Its invariant is the one that is found from the state
 -- named for its start.
 pub record EngineStandsFor (e : EngineView) (steps : List Step) : Type 0 where
   pub latches : IsStart e.circuit e.settings.start
   pub are : AreSteps e.circuit e.representatives e.settings steps
   pub rest : e.rest ≡ drop (length steps) (all_first e)
-  pub list : e.list ≡ vectors_of_steps steps
+  pub graded : HasGraded e (vectors_of_steps steps)
   pub kinds : (i : ℕ) → i < length e.representatives → IsKindIn (entries_of steps) i (kind_at e i)
   pub done : (i : ℕ) → i < e.place → ¬ AwaitsVerdict e.circuit e.representatives e.settings steps i
   pub entered : (i : ℕ) → HasEntry (entries_of steps) i → i < e.place

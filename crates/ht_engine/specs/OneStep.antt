@@ -1,8 +1,8 @@
 -- What one step changes of what an engine keeps.
 use Rattle.std.specs.Prelude.{◌≡◌, ◌⊎◌, ◌<◌, ◌≤◌, ◌+◌, ◌∷◌, ◌++◌, ℕ, List, [], Bool, Option, Some, None, length, slice_set}
-use Rattle.ht_net.specs.Detection.{IsFirstFrom}
 use Rattle.ht_net.specs.Rows.{Rows}
 use Rattle.ht_faults.specs.Classes.{fault_at}
+use Rattle.ht_proofs.specs.Detections.{place_at}
 use Rattle.ht_texts.specs.declared.said.Said.{Said}
 use Rattle.ht_texts.specs.declared.said.Said.TheVariants as said
 use Rattle.ht_tree.specs.declared.entry.Entry as recorded
@@ -14,7 +14,7 @@ use Rattle.ht_engine.specs.declared.step.Step.TheVariants.{Vectors, Entry, Finis
 use Rattle.ht_engine.specs.declared.work.Work.{Work}
 use Rattle.ht_engine.specs.declared.work.Work.TheVariants as made
 use Rattle.ht_engine.specs.DeepWork.{HoldsAfter, IsWorkBy}
-use Rattle.ht_engine.specs.EngineStands.{EngineView}
+use Rattle.ht_engine.specs.EngineStands.{EngineView, HasGraded}
 use Rattle.ht_engine.specs.Enough.{IsEnough}
 use Rattle.ht_engine.specs.Steps.{IsChosen, one_vector}
 
@@ -24,7 +24,7 @@ use Rattle.ht_engine.specs.Steps.{IsChosen, one_vector}
 pub record IsUndetected (e : EngineView) (i : ℕ) : Type 0 where
   pub own : IsOwn e.circuit e.representatives i
   pub chosen : IsChosen e.representatives e.settings i
-  pub undetected : IsFirstFrom e.circuit (fault_at e.circuit i) e.settings.start e.list None
+  pub undetected : place_at e.grader.places i ≡ None
 
 -- The least undetected fault that isn't below the place.
 pub record IsNextUndetected (e : EngineView) (i : ℕ) : Type 0 where
@@ -47,11 +47,22 @@ said_by (Some kind) = said_by_kind kind
 
 -- ---- what the work gave
 
--- What the work on fault i after the vectors so far gives, and what that means, by what an engine keeps.
-pub record IsWorkOn (e : EngineView) (i : ℕ) (w : Work) : Type 0 where
-  pub given : IsWorkBy e.settings.search e.circuit (fault_at e.circuit i) e.settings e.list e.named_invariant w
-  pub holds : HoldsAfter e.circuit (fault_at e.circuit i) e.settings e.list w
+-- What the work on fault i after these vectors gives, and what that means, by what an engine keeps.
+pub record IsWorkAfter (e : EngineView) (before : List (List Bool)) (i : ℕ) (w : Work) : Type 0 where
+  pub given : IsWorkBy e.settings.search e.circuit (fault_at e.circuit i) e.settings before e.named_invariant w
+  pub holds : HoldsAfter e.circuit (fault_at e.circuit i) e.settings before w
   pub enough : IsEnough e.circuit (fault_at e.circuit i) e.settings.budget e.named_invariant.clauses w
+
+-- What the work on fault i gives, after the vectors that the engine has graded.
+abbrev pub IsWorkOn : EngineView → ℕ → Work → Type 0
+IsWorkOn e i w = (before : List (List Bool)) → HasGraded e before → IsWorkAfter e before i w
+
+-- ---- the vectors that are graded
+
+-- Vectors were graded after those so far, and nothing else is new.
+pub record AddsVectors (old : EngineView) (list : List (List Bool)) (new : EngineView) : Type 0 where
+  pub after : new ≡ record old { grader = new.grader }
+  pub graded : (before : List (List Bool)) → HasGraded old before → HasGraded new (before ++ list)
 
 -- ---- the first vectors
 
@@ -70,7 +81,8 @@ pub record GivesFirst (old new : EngineView) (list : Rows) : Type 0 where
   pub left : old.rest ≡ vector ∷ rest
   pub given : list ≡ one_vector old.circuit vector
   pub wide : length vector ≡ old.circuit.inputs
-  pub after : new ≡ record old { list = old.list ++ list.list; rest = rest }
+  pub after : new ≡ record old { grader = new.grader; rest = rest }
+  pub graded : (before : List (List Bool)) → HasGraded old before → HasGraded new (before ++ list.list)
 
 -- A list was given for the next fault: its vectors are kept.
 pub record GivesList (old new : EngineView) (list : Rows) : Type 0 where
@@ -78,7 +90,8 @@ pub record GivesList (old new : EngineView) (list : Rows) : Type 0 where
   pub fault : ℕ
   pub next : IsNextUndetected old fault
   pub work : IsWorkOn old fault (made.List list)
-  pub after : new ≡ record old { list = old.list ++ list.list; place = fault + 1 }
+  pub after : new ≡ record old { grader = new.grader; place = fault + 1 }
+  pub graded : (before : List (List Bool)) → HasGraded old before → HasGraded new (before ++ list.list)
 
 -- An entry was given for the next fault: its kind is kept.
 pub record GivesEntry (old new : EngineView) (fault : ℕ) (entry : recorded.Entry) : Type 0 where
@@ -101,7 +114,3 @@ abbrev pub Advances : EngineView → EngineView → Step → Type 0
 Advances old new (Vectors list) = GivesFirst old new list ⊎ GivesList old new list
 Advances old new (Entry fault entry) = GivesEntry old new fault entry
 Advances old new Finished = Ends old new
-
--- No step was made: at most one of the first vectors that was drawn is lost.
-abbrev pub MakesNone : EngineView → EngineView → Type 0
-MakesNone old new = new ≡ record old { rest = new.rest }

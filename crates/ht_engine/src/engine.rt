@@ -11,9 +11,9 @@ ghost use Rattle.ht_valid.specs.ValidFiles.{IsOwn};
 ghost use Rattle.ht_engine.specs.declared.step.Step as made;
 ghost use Rattle.ht_engine.specs.declared.step.Step.TheVariants as made_step;
 ghost use Rattle.ht_engine.specs.declared.work.Work.TheVariants as work;
-ghost use Rattle.ht_engine.specs.OneStep.{Advances, DrawsFirst, IsNextOf, IsNextUndetected, IsUndetected, IsWorkOn, MakesNone, said_by};
+ghost use Rattle.ht_engine.specs.OneStep.{AddsVectors, Advances, DrawsFirst, IsNextOf, IsNextUndetected, IsUndetected, IsWorkOn, said_by};
 ghost use Rattle.ht_engine.specs.Steps.{one_vector};
-ghost use Rattle.ht_engine.specs.EngineStands.{EngineStandsFor, HasSameWork, IsSaid, Makes, MeansOfStep, remaining};
+ghost use Rattle.ht_engine.specs.EngineStands.{EngineStandsFor, HasGraded, HasSameWork, IsSaid, Makes, MeansOfStep, remaining};
 
 use crate::chosen::mark_chosen;
 use crate::deep::work_deep;
@@ -22,10 +22,10 @@ use crate::settings::{Search, Settings};
 use crate::step::Step;
 use crate::work::{Work, work_on};
 use ht_faults::{Classes, FaultList};
-use ht_grade::Grader;
 use ht_invariant::{Invariant, find};
 use ht_items::Items;
 use ht_net::{Circuit, Vectors, some_state};
+use ht_proofs::ClassGrader;
 use ht_texts::Said;
 use ht_tree::{Entry, EntryKind};
 use ht_window::{Bases, PairState};
@@ -52,7 +52,8 @@ fn said_by(kind: Option<EntryKind>) -> Said
     }
 }
 
-/// A generator that stands for the steps that it gave. It keeps their vectors, and of their entries the kinds.
+/// A generator that stands for the steps that it gave. It keeps what their vectors detect, and the kinds of their
+/// entries.
 #[derive(Drop)]
 pub struct Engine<'c> {
     alloc: Global,
@@ -60,7 +61,7 @@ pub struct Engine<'c> {
     faults: &'c FaultList,
     classes: &'c Classes,
     settings: &'c Settings,
-    grader: Grader<'c>,
+    grader: ClassGrader<'c>,
     // what the windows for each fault are copied from
     bases: Bases<'c>,
     // the clauses that hold in each run from the state that is named: the start, with 0 where it is unknown
@@ -113,7 +114,7 @@ impl<'c> Engine<'c> {
         ensures live { IfOk result (λ engine. engine.live ≡ true) }
     {
         let start = settings.start.as_slice();
-        let grader = Grader::new_from(alloc, circuit, faults, classes, start)?;
+        let grader = ClassGrader::new_from(alloc, circuit, faults, classes, start)?;
         let kinds = no_kinds(alloc, classes.len())?;
         let bases = Bases::new(alloc, circuit)?;
         let named = some_state(alloc, start)?;
@@ -187,23 +188,25 @@ impl<'c> Engine<'c> {
         requires { length vector.items ≡ self.old.circuit.inputs }
         ensures given { IfOk result (λ step.
             step ≡ made_step.Vectors (one_vector self.old.circuit vector.items)) }
-        ensures kept { OnOk result
-            (self.new ≡ record self.old { list = self.old.list ++ vector.items ∷ [] }) }
-        ensures same { OnErr result (self.new ≡ self.old) }
+        ensures kept { OnOk result (AddsVectors self.old (vector.items ∷ []) self.new) }
+        ensures same { OnErr result (HasSameWork self.old self.new) }
     {
         let mut one = Vectors::new(self.alloc, self.circuit.inputs());
         one.push(&vector)?;
-        self.grader.apply(self.alloc, &one)?;
+        self.grader.apply(&one)?;
         Ok(Step::Vectors(one))
     }
 
     // The states to which the vectors so far lead the good machine and that of a fault.
     fn states_reached(&self, fault: u32) -> Result<PairState, AllocError>
         requires { IsUndetected self.now fault }
-        ensures good { IfOk result (λ states. states.good
-            ≡ state_from self.now.circuit None self.now.settings.start self.now.list) }
-        ensures faulty { IfOk result (λ states. states.bad ≡ state_from self.now.circuit
-            (Some (fault_at self.now.circuit fault)) self.now.settings.start self.now.list) }
+        ensures good { IfOk result (λ states. (list : List (List Bool)) → HasGraded self.now list
+            → states.good ≡ state_from self.now.circuit None self.now.settings.start list) }
+        ensures faulty { IfOk result (λ states. (list : List (List Bool)) → HasGraded self.now list
+            → states.bad ≡ state_from self.now.circuit (Some (fault_at self.now.circuit fault))
+            self.now.settings.start list) }
+        ensures each { IfOk result (λ states. IsStart self.now.circuit states.good
+            × IsStart self.now.circuit states.bad) }
     {
         let good = self.grader.good_state(self.alloc)?;
         let faulty = self.grader.faulty_state(self.alloc, fault)?;
@@ -249,9 +252,9 @@ impl<'c> Engine<'c> {
         requires next { IsNextUndetected self.old fault }
         requires work { IsWorkOn self.old fault (work.List list) }
         ensures advances { IfOk result (Advances self.old self.new) }
-        ensures same { OnErr result (self.new ≡ self.old) }
+        ensures same { OnErr result (HasSameWork self.old self.new) }
     {
-        self.grader.apply(self.alloc, &list)?;
+        self.grader.apply(&list)?;
         self.place = fault + 1;
         Ok(Step::Vectors(list))
     }
@@ -273,7 +276,7 @@ impl<'c> Engine<'c> {
     fn work(&mut self) -> Result<Step, AllocError>
         requires { self.old.rest ≡ [] }
         ensures advances { IfOk result (Advances self.old self.new) }
-        ensures same { OnErr result (self.new ≡ self.old) }
+        ensures same { OnErr result (HasSameWork self.old self.new) }
     {
         let Some(fault) = self.next_fault() else {
             self.place = self.classes.len();
@@ -288,7 +291,7 @@ impl<'c> Engine<'c> {
     // The next step, or none where memory runs out.
     fn advance(&mut self) -> Result<Step, AllocError>
         ensures advances { IfOk result (Advances self.old self.new) }
-        ensures none { OnErr result (MakesNone self.old self.new) }
+        ensures same { OnErr result (HasSameWork self.old self.new) }
     {
         match self.draw()? {
             Some(vector) => self.give_first(vector),

@@ -7,7 +7,7 @@ pub use Rattle.ht_dictionary.specs.ObservationView.{ObservationView}
 pub use Rattle.ht_dictionary.specs.ResponseTexts.{IsMalformedResponse, row_text}
 pub use Rattle.ht_entries.specs.ProofLines.{line_text}
 pub use Rattle.ht_entries.specs.declared.numbered.Numbered.{Numbered}
-pub use Rattle.ht_grade.specs.Detections.{AreFirstDetections}
+pub use Rattle.ht_proofs.specs.Detections.{AreFirstDetections}
 pub use Rattle.ht_inputs.specs.Errors.{exit_status, judged_error_of}
 pub use Rattle.ht_inputs.specs.Inputs.{AcceptsInputs, HasNetlist, IsGoodNetlist, IsInput, JobBasis, MayHold, SaysBasis}
 pub use Rattle.ht_inputs.specs.Inputs.{WasRead}
@@ -32,7 +32,7 @@ pub use Rattle.ht_ports.specs.declared.ports.InPort.TheVariants.{Extra}
 pub use Rattle.ht_tern.specs.declared.tern.Tern.{Tern}
 pub use Rattle.ht_texts.proofs.LinesSoFarLaws.{LinesSoFar}
 pub use Rattle.ht_texts.specs.Tests.{IsMalformedTest, IsTestText, IsTooLong, vector_text}
+pub use Rattle.ht_texts.specs.WrongLines.{IsFirst}
 pub use Rattle.ht_texts.specs.declared.said.Said.{Said}
-pub use Rattle.ht_valid.specs.FirstTrouble.{IsFirst}
 pub use Rattle.ht_valid.specs.ValidFiles.{Content}
 pub use Rattle.ht_valid.specs.declared.trouble.Trouble.{Trouble}

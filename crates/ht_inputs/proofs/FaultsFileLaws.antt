@@ -37,8 +37,11 @@ module _ (basis : JobBasis) (text : List ℕ) (before : List (List ℕ)) (fine :
       counted = none.counted;
       wrong = (
         refl,
-        λ numbers are. none.none numbers (subst (λ l. AreFaultLines (fault_count basis) l numbers)
-            (sym (grown_to (lines_of text) n none.counted.0 none.counted.1)) are),
+        λ numbers are. none.none (
+          numbers,
+          subst (λ l. AreFaultLines (fault_count basis) l numbers)
+              (sym (grown_to (lines_of text) n none.counted.0 none.counted.1)) are,
+        ),
       );
     },
   )
@@ -57,17 +60,17 @@ module _ (basis : JobBasis) (text : List ℕ) (before : List (List ℕ)) (fine :
       let (there, is) = front_is before line text front in
       bad_at (shorter before line text front) (inl (record {
         counted = (omega arith, omega (arith, there));
-        none = λ numbers are. wrong.1 numbers (subst (λ l. AreFaultLines (fault_count basis) l numbers) is are);
+        none = λ found. wrong.1 found.0 (subst (λ l. AreFaultLines (fault_count basis) l found.0) is found.1);
       }))
 
   pub long_fault : fault_count basis < 2 ^ 64 → HasLongLine MAX_LINE_BYTES before text → IsBadAt (length before + 1)
   long_fault few long = bad_at long.front (elim long.long [
     | inl wide ↦ inl (record {
       counted = (omega arith, omega (arith, long.there));
-      none = λ numbers are.
+      none = λ found.
           let n = length before in
           let size = length-take-le (n + 1) (lines_of text) (omega (arith, long.there)) in
-          let short = fault_lines_are_short (fault_count basis) (take (n + 1) (lines_of text)) numbers few are n []
+          let short = fault_lines_are_short (fault_count basis) (take (n + 1) (lines_of text)) found.0 few found.1 n []
           (omega (arith, size)) in
           let same = ap (λ (l : List ℕ). length l) (get_or-take (n + 1) (lines_of text) n [] (omega arith)) in
           omega (arith, wide, short, same);

@@ -75,7 +75,7 @@ start_is : (name : Option (List ℕ)) (texts : InPort → List ℕ) (basis : Job
     → ((n : List ℕ) → name ≡ Some n → IsStartText (length basis.circuit.dffs) (texts Extra) basis.content.start)
     → start ≡ basis.content.start
 start_is (Some n) texts basis start is stated says =
-    (start_or_malformed (length basis.circuit.dffs) (texts Extra)).one_start start basis.content.start is (says n refl)
+    (start_or_malformed (length basis.circuit.dffs) (texts Extra)).one_value start basis.content.start is (says n refl)
 start_is None texts basis start is stated says = is ∙ sym (stated refl)
 
 -- files that a judge denies for each circuit, classes and start that their texts say are denied for those of the basis

@@ -9,7 +9,7 @@ use Rattle.ht_net.specs.Netlist.{IsCircuit}
 use Rattle.ht_net.specs.Detection.{IsStart}
 use Rattle.ht_faults.specs.Sites.{faults_of}
 use Rattle.ht_faults.specs.Classes.{AreClasses}
-use Rattle.ht_grade.specs.Detections.{AreFirstDetections}
+use Rattle.ht_proofs.specs.Detections.{AreFirstDetections}
 use Rattle.ht_texts.specs.Tests.{IsTestText}
 use Rattle.ht_valid.specs.ValidFiles.{Content}
 use Rattle.ht_valid.specs.declared.trouble.Trouble.TheVariants as trouble

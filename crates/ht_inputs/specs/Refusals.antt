@@ -17,7 +17,8 @@ use Rattle.ht_dictionary.specs.ResponseTexts.{IsMalformedResponse}
 use Rattle.ht_faults.specs.Sites.{faults_of}
 use Rattle.ht_faults.specs.Classes.{AreClasses}
 use Rattle.ht_valid.specs.ValidFiles.{AreValidFiles, Content}
-use Rattle.ht_valid.specs.FirstTrouble.{EndsWrongEntry, IsEvidence, IsFaultTrouble, IsFirst, IsFirstFault, IsFirstProofLine, IsReportTrouble}
+use Rattle.ht_texts.specs.WrongLines.{IsFirst}
+use Rattle.ht_valid.specs.FirstTrouble.{EndsWrongEntry, IsEvidence, IsFaultTrouble, IsFirstFault, IsFirstProofLine, IsReportTrouble}
 use Rattle.ht_valid.specs.declared.trouble.Trouble.TheVariants as trouble
 use Rattle.ht_asked.specs.Asked as asked
 use Rattle.ht_asked.specs.Asked.{Asked, sim, gen, check, compact, diagnose, respond}

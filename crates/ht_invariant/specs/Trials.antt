@@ -1,6 +1,7 @@
 -- Windows under clauses as a search holds them.
-use Rattle.std.specs.Prelude.{List, ◌∷◌, Bool, true, nat_lt, length}
+use Rattle.std.specs.Prelude.{List, ◌∷◌, Bool, true, nat_lt, length, Option, is_none}
 use Rattle.std.specs.List.{list_all}
+use Rattle.ht_net.specs.declared.fault.Fault.{Fault}
 use Rattle.ht_net.specs.Netlist.{Netlist}
 use Rattle.ht_tree.specs.Windows.{SearchWindow}
 use Rattle.ht_tree.specs.declared.clause.Literal.{Literal}
@@ -28,6 +29,11 @@ knows c literals = list_all (λ (literal : Literal). nat_lt literal.dff (length 
 abbrev pub knows_sought : Netlist → Sought → Bool
 knows_sought c Difference = true
 knows_sought c (Breach first second) = knows c (first ∷ second_of second)
+
+-- a breach is sought in the good machine alone
+abbrev pub suits_sought : Option Fault → Sought → Bool
+suits_sought fault Difference = true
+suits_sought fault (Breach first second) = is_none fault
 
 -- each clause speaks of the circuit's flip-flops alone
 abbrev pub knows_each : Netlist → List Clause → Bool

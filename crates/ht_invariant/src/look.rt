@@ -1,5 +1,5 @@
 //! What a window shows of what is looked for, whatever the clauses.
-ghost use Rattle.std.specs.Prelude.{◌≡◌, ◌<◌, ◌&&◌, ◌∷◌, [], true, not, length};
+ghost use Rattle.std.specs.Prelude.{◌≡◌, ◌<◌, ◌&&◌, ◌∷◌, [], true, not, None, length};
 ghost use Rattle.std.specs.List.{find};
 ghost use Rattle.ht_tern.specs.Gate.{tern_of};
 ghost use Rattle.ht_pairs.specs.Pairs.{is_member, pair};
@@ -12,7 +12,7 @@ ghost use Rattle.ht_tree.specs.declared.clause.Literal.{Literal};
 ghost use Rattle.ht_tree.specs.Clauses.{second_of};
 ghost use Rattle.ht_tree.specs.ClauseWindows.{breach_status, is_one_frame, may_miss, must_miss, open_if_sure, sought_status, status_under};
 ghost use Rattle.ht_tree.specs.ClauseSearches.{back_from, choice_if_open, pick_under, sought_choice};
-ghost use Rattle.ht_invariant.specs.Trials.{clause_window, knows, knows_each, knows_sought, sought_of};
+ghost use Rattle.ht_invariant.specs.Trials.{clause_window, knows, knows_each, knows_sought, sought_of, suits_sought};
 ghost use Rattle.ht_invariant.specs.Looks.{miss_status};
 
 use crate::literals::{breaks_some, meets_each, to_clause};
@@ -31,10 +31,13 @@ struct Missing {
 
 // The next state of a latch.
 fn next_set(window: &Window, j: u32) -> PairSet
+    requires good { window.now.window.fault ≡ None }
     requires one { window.now.window.frames ≡ 1 }
     requires known { j < length window.now.window.circuit.dffs }
     ensures { result ≡ set_at window.now.window window.now.decisions 0 (State j) }
 {
+    // for the proof: all nets matter
+    let _ = window.circuit();
     window.next_state(j)
 }
 
@@ -55,6 +58,7 @@ fn has_bit(set: PairSet, bit: bool) -> bool
 
 // What the next state of a literal's latch shows of it.
 fn miss(window: &Window, literal: Literal) -> Missing
+    requires good { window.now.window.fault ≡ None }
     requires one { window.now.window.frames ≡ 1 }
     requires known { literal.dff < length window.now.window.circuit.dffs }
     ensures may { result.may ≡ may_miss window.now.window window.now.decisions literal }
@@ -83,6 +87,7 @@ fn status_by(must: bool, may: bool) -> Status3
 
 // What the decisions make of a next state that doesn't meet a clause.
 fn breach_status(window: &Window, first: Literal, second: Option<Literal>) -> Status3
+    requires good { window.now.window.fault ≡ None }
     requires one { window.now.window.frames ≡ 1 }
     requires known { knows window.now.window.circuit (first ∷ second_of second) ≡ true }
     ensures { result ≡ breach_status window.now.window window.now.decisions
@@ -100,6 +105,7 @@ fn breach_status(window: &Window, first: Literal, second: Option<Literal>) -> St
 
 // Whether the next state of a literal's latch is undetermined.
 fn is_open_at(window: &Window, literal: Literal) -> bool
+    requires good { window.now.window.fault ≡ None }
     requires one { window.now.window.frames ≡ 1 }
     requires known { literal.dff < length window.now.window.circuit.dffs }
     ensures { result ≡ is_undetermined
@@ -110,6 +116,7 @@ fn is_open_at(window: &Window, literal: Literal) -> bool
 
 // The first literal whose latch's next state is undetermined.
 fn undetermined_literal(window: &Window, first: Literal, second: Option<Literal>) -> Option<Literal>
+    requires good { window.now.window.fault ≡ None }
     requires one { window.now.window.frames ≡ 1 }
     requires known { knows window.now.window.circuit (first ∷ second_of second) ≡ true }
     ensures { result ≡ find (λ (literal : Literal). is_undetermined
@@ -133,7 +140,8 @@ fn undetermined_literal(window: &Window, first: Literal, second: Option<Literal>
 
 // The walk back from the next state of a literal's latch, where it wants the other bit.
 fn back_from(window: &Window, literal: Option<Literal>) -> Option<Choice>
-    requires { (l : Literal) → literal ≡ Some l → (l.dff < length window.now.window.circuit.dffs)
+    requires good { window.now.window.fault ≡ None }
+    requires walks { (l : Literal) → literal ≡ Some l → (l.dff < length window.now.window.circuit.dffs)
         × CanWalk window.now.window window.now.decisions 0
         (spot_net window.now.window.circuit (State l.dff)) }
     ensures { result ≡ back_from window.now.window window.now.decisions literal }
@@ -172,6 +180,7 @@ fn open_if_sure(status: Status3) -> Status3
 // What the decisions make of what is looked for.
 fn sought_status(window: &Window, sought: Sought) -> Status3
     requires one { window.now.window.frames ≡ 1 }
+    requires suited { suits_sought window.now.window.fault sought ≡ true }
     requires known { knows_sought window.now.window.circuit sought ≡ true }
     ensures { result ≡ sought_status window.now.window window.now.decisions (sought_of sought) }
 {
@@ -184,6 +193,7 @@ fn sought_status(window: &Window, sought: Sought) -> Status3
 // The choice for what is looked for.
 fn sought_choice(window: &Window, sought: Sought) -> Option<Choice>
     requires one { window.now.window.frames ≡ 1 }
+    requires suited { suits_sought window.now.window.fault sought ≡ true }
     requires known { knows_sought window.now.window.circuit sought ≡ true }
     ensures { result ≡ sought_choice window.now.window window.now.decisions (sought_of sought) }
 {
@@ -201,6 +211,7 @@ fn sought_choice(window: &Window, sought: Sought) -> Option<Choice>
 /// The status under clauses.
 pub fn status_under(window: &Window, sought: Sought, clauses: &[Clause]) -> Status3
     requires one { is_one_frame window.now.window.start ≡ true }
+    requires suited { suits_sought window.now.window.fault sought ≡ true }
     requires known { knows_sought window.now.window.circuit sought ≡ true }
     requires known_clauses { knows_each window.now.window.circuit clauses.now ≡ true }
     ensures { result ≡ status_under
@@ -221,6 +232,7 @@ pub fn status_under(window: &Window, sought: Sought, clauses: &[Clause]) -> Stat
 /// The choice of variable under clauses.
 pub fn pick_under(window: &Window, sought: Sought, clauses: &[Clause]) -> Choice
     requires one { is_one_frame window.now.window.start ≡ true }
+    requires suited { suits_sought window.now.window.fault sought ≡ true }
     requires known { knows_sought window.now.window.circuit sought ≡ true }
     requires known_clauses { knows_each window.now.window.circuit clauses.now ≡ true }
     ensures { result ≡ pick_under

@@ -8,7 +8,7 @@ ghost use Rattle.ht_tree.specs.ClauseSearches.{guide_under};
 ghost use Rattle.ht_search.specs.Outcomes.{IsClosed, IsOutcome, IsSpent};
 ghost use Rattle.ht_search.specs.WindowSteps.{route_of, steps_under};
 ghost use Rattle.ht_window.specs.Shallow.{window_shallow};
-ghost use Rattle.ht_invariant.specs.Trials.{clause_window, knows_each, knows_sought};
+ghost use Rattle.ht_invariant.specs.Trials.{clause_window, knows_each, knows_sought, suits_sought};
 
 use crate::look::{pick_under, status_under};
 use crate::sought::Sought;
@@ -29,6 +29,7 @@ pub struct ClauseTrial<'c, 'k> {
     pub clauses: &'k [Clause],
     ghost one_frame: { is_one_frame window.window.start ≡ true },
     ghost known_sought: { knows_sought window.window.circuit sought ≡ true },
+    ghost suited: { suits_sought window.window.fault sought ≡ true },
     ghost known_clauses: { knows_each window.window.circuit clauses.now ≡ true },
 }
 

@@ -6,7 +6,7 @@ use Rattle.ht_tern.specs.declared.tern.Tern.{Tern}
 use Rattle.ht_ports.specs.LineRule.{lines_of, max_text_bytes}
 use Rattle.ht_net.specs.Netlist.{IsCircuit, Netlist}
 use Rattle.ht_faults.specs.Classes.{AreClasses, fault_at}
-use Rattle.ht_grade.proofs.DetectionLaws.{detected_within}
+use Rattle.ht_proofs.proofs.DetectionLaws.{detected_within}
 use Rattle.ht_texts.specs.declared.said.Said.{Said}
 use Rattle.ht_texts.specs.declared.said.Said.TheVariants.{Detected, Untestable, Undetectable, Aborted, Undetected}
 use Rattle.ht_texts.specs.Reports.{report_text}

@@ -21,7 +21,7 @@ use Rattle.ht_texts.specs.ReportReading.{ReportReading, before_report, in_report
 use Rattle.ht_texts.specs.ReportStands.{EndsReport, ReportView, ReportStands, ReportCalled, new_report}
 use Rattle.ht_texts.proofs.SaidLaws.{said_before, said_last}
 use Rattle.ht_texts.proofs.ReadingLaws.{last_item_push, length-in_report}
-use Rattle.ht_grade.specs.Detections.{AreFirstDetections, place_at}
+use Rattle.ht_proofs.specs.Detections.{AreFirstDetections, place_at}
 use Rattle.ht_valid.specs.ValidFiles.{AgreesWithTests}
 use Rattle.ht_valid.specs.FirstTrouble.{ContradictsTests}
 use Rattle.ht_valid.specs.declared.trouble.Trouble.TheVariants.{Report}

@@ -13,7 +13,7 @@ use Rattle.ht_texts.specs.Verdicts.{said_at}
 use Rattle.ht_texts.specs.SearchReports.{IsReportFront, IsSearchReport}
 use Rattle.ht_texts.specs.ReportReading.{ReportReading, before_report, in_report, after_report, ReportReadsTo}
 use Rattle.ht_texts.specs.ReportStands.{sums_read}
-use Rattle.ht_grade.specs.Detections.{AreFirstDetections, place_at}
+use Rattle.ht_proofs.specs.Detections.{AreFirstDetections, place_at}
 use Rattle.ht_valid.specs.ValidFiles.{AgreesWithTests, IsOwn}
 use Rattle.ht_valid.specs.FirstTrouble.{ContradictsTests}
 use Rattle.ht_valid.specs.declared.trouble.Trouble.TheVariants.{Report}

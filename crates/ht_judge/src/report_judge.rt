@@ -3,7 +3,7 @@ ghost use Rattle.std.specs.Prelude.{◌≡◌, ◌↔◌, ◌++◌, [], true, Li
 ghost use Rattle.ht_tern.specs.declared.tern.Tern as tern;
 ghost use Rattle.ht_faults.specs.Sites.{faults_of};
 ghost use Rattle.ht_faults.specs.Classes.{AreClasses};
-ghost use Rattle.ht_grade.specs.Detections.{AreFirstDetections, place_at};
+ghost use Rattle.ht_proofs.specs.Detections.{AreFirstDetections, place_at};
 ghost use Rattle.ht_texts.specs.SearchReports.{IsBudget};
 ghost use Rattle.ht_valid.specs.declared.trouble.Trouble.TheVariants as trouble;
 ghost use Rattle.ht_judge.specs.declared.judge_error.JudgeError.TheVariants as error;

@@ -30,7 +30,7 @@ use Rattle.ht_proofs.specs.declared.stems.Firsts.{Firsts}
 use Rattle.ht_proofs.specs.declared.stems.Follower.{Follower}
 use Rattle.ht_proofs.specs.LaneGrades.{no_grade, grade_at, HasNoLane, IsGradedFault}
 use Rattle.ht_proofs.specs.Batches.{BatchView, ArePassed, ArePassedAll, IsGradedFrame, machine_from}
-use Rattle.ht_proofs.specs.Followers.{no_firsts, first_in, with_first, first_at, first_noted, no_follower, following, Joins, comes_first, comes_later, arrived_grade, is_at_stem, EndsAt, GoesThrough, takes_lane, ends_apart, ends_at_stem, IsFollower, AreSharing, AreFollowers, AreCopied}
+use Rattle.ht_proofs.specs.Followers.{no_firsts, first_in, with_first, first_at, first_noted, firsts_if, no_follower, following, Joins, comes_first, comes_later, arrived_grade, is_at_stem, EndsAt, GoesThrough, takes_lane, ends_apart, ends_at_stem, IsFollower, AreSharing, AreFollowers, AreCopied}
 use Rattle.ht_proofs.proofs.BatchLaws.{graded_in, has_lane, lane_before, lane_last, lane_order, sharing_later}
 use Rattle.ht_proofs.proofs.ArrivedLaws as arrived
 
@@ -86,20 +86,33 @@ none_yet Zero = refl
 none_yet One = refl
 none_yet Unk = refl
 
+-- a table of a frame in which ends were found is used, and else an empty one
+empty_entry : (found : Bool) (n : ℕ) (table : List Firsts) → (found ≡ true → table ≡ replicate n no_firsts) → (x : ℕ)
+    → get_or (firsts_if found table) x no_firsts ≡ no_firsts
+empty_entry false n table empty x = refl
+empty_entry true n table empty x = ap (λ (t : List Firsts). get_or t x no_firsts) (empty refl)
+    ∙ elim (le_or_lt n x) [
+      | inl past ↦
+          get_or_past (replicate n no_firsts) x no_firsts (omega (arith, past, length-replicate n no_firsts))
+      | inr inside ↦ get_or-replicate n x no_firsts no_firsts inside
+    ]
+
+pub joins_if : (x : ℕ) (v : Tern) (i : ℕ) (found later : Bool) (table : List Firsts) (followers : List Follower)
+    (lane : Bool) (after : List Firsts) (more : List Follower) → found ≡ true → later ≡ found
+    → Joins x v i table followers lane after more
+    → Joins x v i (firsts_if found table) followers lane (firsts_if later after) more
+joins_if x v i true true table followers lane after more is same joins = joins
+joins_if x v i true false table followers lane after more is same joins = cc
+joins_if x v i false later table followers lane after more is same joins = cc
+
 -- no fault has arrived in an empty table
-pub sharing_none : (frame : GroupView) (faults : List Fault) (number : ℕ) (old : List Grade) (n : ℕ)
-    (table : List Firsts) (followers : List Follower) → table ≡ replicate n no_firsts → followers ≡ []
-    → AreSharing frame faults number old 0 table followers
-sharing_none frame faults number old n table followers empty none = record {
+pub sharing_none : (frame : GroupView) (faults : List Fault) (number : ℕ) (old : List Grade) (found : Bool) (n : ℕ)
+    (table : List Firsts) (followers : List Follower) → (found ≡ true → table ≡ replicate n no_firsts)
+    → followers ≡ [] → AreSharing frame faults number old 0 (firsts_if found table) followers
+sharing_none frame faults number old found n table followers empty none = record {
   firsts = λ x v f at.
-      let entry : get_or table x no_firsts ≡ no_firsts =
-      ap (λ (t : List Firsts). get_or t x no_firsts) empty
-      ∙ elim (le_or_lt n x) [
-        | inl past ↦
-            get_or_past (replicate n no_firsts) x no_firsts (omega (arith, past, length-replicate n no_firsts))
-        | inr inside ↦ get_or-replicate n x no_firsts no_firsts inside
-      ] in
-      let bad : None ≡ Some f = sym (ap (λ (e : Firsts). first_in e v) entry ∙ none_yet v) ∙ at in
+      let bad : None ≡ Some f =
+      sym (ap (λ (e : Firsts). first_in e v) (empty_entry found n table empty x) ∙ none_yet v) ∙ at in
       cc;
   each = λ k less. absurd (omega (arith, less, long));
   differ = λ j k order less. absurd (omega (arith, less, long));

@@ -41,6 +41,13 @@ pub state_of : (latches : List Tern) (grades : List Grade) (k : ℕ) → k < len
 state_of latches grades k inside =
     get_or-map (λ (g : Grade). with_differences latches g.diffs) grades k no_grade [] inside
 
+-- it has a value for each latch
+pub state_long : (latches : List Tern) (grades : List Grade) (k : ℕ) → k < length grades
+    → length (get_or (faulty_states latches grades) k []) ≡ length latches
+state_long latches grades k known =
+    ap (λ (l : List Tern). length l) (state_of latches grades k known)
+    ∙ length-map-range_with_len (value_but latches (grade_at grades k).diffs) 0 (length latches)
+
 -- the latch of a fault's machine
 pub latch_is : (latches : List Tern) (grades : List Grade) (k j : ℕ) (grade : Grade) (good value : Tern)
     → k < length grades → j < length latches → grade ≡ get_or grades k grade → good ≡ get_or latches j good

@@ -1,5 +1,5 @@
 -- Faults of a frame whose effects end at one stem: the first is graded in a lane, and the others take over its grade.
-use Rattle.std.specs.Prelude.{◌≡◌, ◌≢◌, ◌<◌, ◌++◌, ◌∷◌, ℕ, List, [], Bool, true, false, Option, Some, None, length, get_or, map, set}
+use Rattle.std.specs.Prelude.{◌≡◌, ◌≢◌, ◌<◌, ◌++◌, ◌∷◌, ℕ, List, [], Bool, true, false, Option, Some, None, length, get_or, map, set, if◌then◌else◌}
 use Rattle.std.specs.List.{slice_get}
 use Rattle.ht_tern.specs.declared.tern.Tern.{Tern}
 use Rattle.ht_tern.specs.declared.tern.Tern.TheVariants.{Zero, One, Unk}
@@ -41,6 +41,10 @@ first_at table x v = first_in (get_or table x no_firsts) v
 -- the table once fault i is the first that arrived at net x with a value
 abbrev pub first_noted : List Firsts → ℕ → Tern → ℕ → List Firsts
 first_noted table x v i = set table x (with_first (get_or table x no_firsts) v i)
+
+-- the table of a frame where it was found where effects end, and else none
+abbrev pub firsts_if : Bool → List Firsts → List Firsts
+firsts_if found table = if found then table else []
 
 -- no follower
 abbrev pub no_follower : Follower

@@ -1,6 +1,6 @@
 //! One frame of all undetected faults.
-ghost use Rattle.std.specs.Prelude.{◌≡◌, ◌<◌, ◌≤◌, ◌+◌, ◌*◌, ℕ, [], List, None, Some, true, min, length, replicate, IfOk, OnOk, OnErr};
-ghost use Rattle.std.specs.List.{All, slice_get};
+ghost use Rattle.std.specs.Prelude.{◌≡◌, ◌↔◌, ◌<◌, ◌≤◌, ◌+◌, ◌*◌, ◌/◌, ℕ, [], List, None, Some, true, min, length, replicate, IfOk, IsTrue, OnOk, OnErr};
+ghost use Rattle.std.specs.List.{All, count_by, slice_get};
 ghost use Rattle.ht_net.specs.declared.fault.Fault.{Fault};
 ghost use Rattle.ht_net.specs.Detection.{terns_of};
 ghost use Rattle.ht_net.specs.Netlist.{net_count};
@@ -10,15 +10,16 @@ ghost use Rattle.ht_stems.specs.ArrivalsView.{good_of_net};
 ghost use Rattle.ht_group.specs.GroupView.{AreLatches, GroupView, max_machines, words_for};
 ghost use Rattle.ht_proofs.specs.declared.grade.Grade.{Grade};
 ghost use Rattle.ht_proofs.specs.Applied.{good_state, max_steps};
-ghost use Rattle.ht_proofs.specs.LaneGrades.{grade_at};
+ghost use Rattle.ht_proofs.specs.LaneGrades.{grade_at, holds_good};
 ghost use Rattle.ht_proofs.specs.Batches.{AreCounted, AreLanesBelow, ArePassed, ArePassedAll, IsGradedFrame, undetected_count};
-ghost use Rattle.ht_proofs.specs.Followers.{AreSharing, following, no_firsts};
+ghost use Rattle.ht_proofs.specs.Followers.{AreSharing, firsts_if, following, no_firsts};
 ghost use Rattle.ht_proofs.specs.Undetected.{undetected_of, verdicts_of};
 
 use crate::batch::Batch;
 use crate::grade::Grade;
 use crate::stems::Stems;
 use crate::steps::Steps;
+use ht_group::MAX_MACHINES;
 use ht_net::{Circuit, Fault};
 use ht_tern::Tern;
 use std::alloc::{AllocError, Global};
@@ -61,15 +62,15 @@ fn grade_fault(
     requires room { length batch.old.lanes < max_machines }
     requires circuit { stems.old.arrivals.circuit ≡ batch.old.group.circuit }
     requires table { length stems.old.firsts.items ≡ net_count batch.old.group.circuit }
-    requires good { AreGoodValues batch.old.group.circuit batch.old.group.vector
-        batch.old.group.latches (good_of_net stems.old.arrivals) }
+    requires good { stems.old.found ≡ true → AreGoodValues batch.old.group.circuit
+        batch.old.group.vector batch.old.group.latches (good_of_net stems.old.arrivals) }
     ensures lanes { OnOk result (AreLanesBelow (i + 1) batch.new grades.new) }
     ensures room { OnOk result (length batch.new.lanes < max_machines) }
     ensures passed { OnOk result
         ((frame : GroupView) (faults : List Fault) (before : List Grade)
         → slice_get faults i ≡ Some fault
-        → AreSharing frame faults number before i stems.old.firsts.items
-        stems.old.followers.items
+        → AreSharing frame faults number before i
+        (firsts_if stems.old.found stems.old.firsts.items) stems.old.followers.items
         → ArePassed frame faults number before i (following stems.old.followers.items) batch.old
         grades.old
         → ArePassed frame faults number before (i + 1) (following stems.new.followers.items)
@@ -77,12 +78,12 @@ fn grade_fault(
     ensures shared { OnOk result
         ((frame : GroupView) (faults : List Fault) (before : List Grade)
         → slice_get faults i ≡ Some fault
-        → AreSharing frame faults number before i stems.old.firsts.items
-        stems.old.followers.items
+        → AreSharing frame faults number before i
+        (firsts_if stems.old.found stems.old.firsts.items) stems.old.followers.items
         → ArePassed frame faults number before i (following stems.old.followers.items) batch.old
         grades.old
-        → AreSharing frame faults number before (i + 1) stems.new.firsts.items
-        stems.new.followers.items) }
+        → AreSharing frame faults number before (i + 1)
+        (firsts_if stems.new.found stems.new.firsts.items) stems.new.followers.items) }
     ensures counted { OnOk result ((before : List Grade) (start : ℕ)
         → length before ≡ length grades.old → grade_at grades.old i ≡ grade_at before i
         → AreCounted (length batch.old.group.circuit.gates) before i (length batch.old.lanes)
@@ -92,6 +93,7 @@ fn grade_fault(
     ensures circuit { batch.new.group.circuit ≡ batch.old.group.circuit }
     ensures table { length stems.new.firsts.items ≡ length stems.old.firsts.items }
     ensures arrivals { stems.new.arrivals ≡ stems.old.arrivals }
+    ensures found { stems.new.found ≡ stems.old.found }
     ensures steps { OnErr result (steps.new.count ≤ steps.old.count
         + length batch.old.group.circuit.gates * words_for (length batch.old.lanes + 1)) }
     ensures rises { steps.old.count ≤ steps.new.count }
@@ -122,21 +124,24 @@ fn grade_each(
         → AreLatches batch.old.group.circuit (grade_at grades.old k).diffs }
     requires started { (batch.old.lanes ≡ []) × (batch.old.group.machines ≡ []) }
     requires circuit { stems.old.arrivals.circuit ≡ batch.old.group.circuit }
-    requires table { stems.old.firsts.items
+    requires table { length stems.old.firsts.items ≡ net_count batch.old.group.circuit }
+    requires firsts { stems.old.found ≡ true → stems.old.firsts.items
         ≡ replicate (net_count batch.old.group.circuit) no_firsts }
     requires followers { stems.old.followers.items ≡ [] }
-    requires good { AreGoodValues batch.old.group.circuit batch.old.group.vector
-        batch.old.group.latches (good_of_net stems.old.arrivals) }
+    requires good { stems.old.found ≡ true → AreGoodValues batch.old.group.circuit
+        batch.old.group.vector batch.old.group.latches (good_of_net stems.old.arrivals) }
     ensures passed { OnOk result (ArePassedAll batch.old.group faults.now number grades.old
         (following stems.new.followers.items) grades.new) }
     ensures shared { OnOk result (AreSharing batch.old.group faults.now number grades.old
-        (length faults.now) stems.new.firsts.items stems.new.followers.items) }
+        (length faults.now) (firsts_if stems.new.found stems.new.firsts.items)
+        stems.new.followers.items) }
     ensures known { OnOk result ((k : ℕ)
         → AreLatches batch.old.group.circuit (grade_at grades.new k).diffs) }
     ensures good { OnOk result (good_state batch.new.group ≡ good_state batch.old.group) }
     ensures circuit { batch.new.group.circuit ≡ batch.old.group.circuit }
     ensures table { length stems.new.firsts.items ≡ length stems.old.firsts.items }
     ensures arrivals { stems.new.arrivals ≡ stems.old.arrivals }
+    ensures found { stems.new.found ≡ stems.old.found }
     ensures steps { steps.new.count ≤ steps.old.count
         + length batch.old.group.circuit.gates * words_for (undetected_count grades.old) }
     ensures rises { steps.old.count ≤ steps.new.count }
@@ -148,6 +153,29 @@ fn grade_each(
         return Ok(());
     }
     batch.grade_lanes(number, grades, steps)
+}
+
+// How many of the faults with these numbers hold the good latches.
+fn count_holders(numbers: &[usize], grades: &[Grade]) -> usize
+    requires { All (λ k. k < length grades.now) numbers.now }
+    ensures { result ≡ count_by (λ k. holds_good (grade_at grades.now k)) numbers.now }
+{
+    let mut count = 0;
+    for i in numbers {
+        if grades[*i].diffs.entries().is_empty() {
+            count += 1;
+        }
+    }
+    count
+}
+
+// Whether it pays to find where effects end, which takes about two evaluations for each net: there are as many faults
+// that hold the good latches as a group has lanes, and as an eighth of the nets. Only the price of the frame depends on
+// it.
+fn pays(holders: usize, nets: usize) -> bool
+    ensures { IsTrue result ↔ ((max_machines ≤ holders) × (nets / 8 ≤ holders)) }
+{
+    holders >= MAX_MACHINES as usize && holders >= nets / 8
 }
 
 impl<'c> FrameGrader<'c> {
@@ -181,6 +209,13 @@ impl<'c> FrameGrader<'c> {
             ≤ steps.new.count }
     {
         self.batch.start(vector, latches, steps);
+    }
+
+    /// How many flip-flops there are.
+    pub fn dffs(&self) -> u32
+        ensures { result ≡ length self.now.group.circuit.dffs }
+    {
+        self.batch.dffs()
     }
 
     /// Writes the latches of the good machine after the frame.
@@ -221,7 +256,9 @@ impl<'c> FrameGrader<'c> {
             + length self.old.group.circuit.gates * words_for (undetected_count grades.old) }
         ensures rises { steps.old.count ≤ steps.new.count }
     {
-        self.stems.start(self.batch.good_values());
+        let good = self.batch.good_values();
+        let find = pays(count_holders(undetected, grades), good.len());
+        self.stems.start(good, find);
         grade_each(
             &mut self.batch,
             &mut self.stems,

@@ -21,6 +21,9 @@ use ht_tern::Tern;
 use std::alloc::{AllocError, Global};
 use std::marker::Model;
 
+/// No grader takes more vectors.
+pub const MAX_VECTORS: u64 = 1 << 62;
+
 /// Faults of a circuit, and what the vectors applied so far say of them. Faults count from 0, in the order in which
 /// they were given; vectors, outputs and flip-flops count from 0.
 #[derive(Drop)]
@@ -64,8 +67,8 @@ fn choose(alloc: Global, faults: &FaultList, which: &[u32]) -> Result<Vec<Fault>
     Ok(chosen)
 }
 
-// The verdicts on so many faults before the first vector.
-fn verdicts_at_start(alloc: Global, count: usize) -> Result<Vec<Option<Place>>, AllocError>
+/// The verdicts on so many faults before the first vector.
+pub fn verdicts_at_start(alloc: Global, count: usize) -> Result<Vec<Option<Place>>, AllocError>
     ensures { IfOk result (λ verdicts. verdicts.items ≡ replicate count None) }
 {
     let mut verdicts = Vec::with_capacity(alloc, count)?;
@@ -247,19 +250,36 @@ impl<'c> Grader<'c> {
 
     /// What the flip-flops of the good machine hold after the vectors so far.
     pub fn good_latches(&self) -> &[Tern]
-        ensures { result.now ≡ self.now.latches }
+        ensures latches { result.now ≡ self.now.latches }
+        ensures each { IsStart self.now.circuit result.now }
     {
         &self.latches
     }
 
-    /// What flip-flop `j` of the machine of fault `k` holds after the vectors so far, where the fault isn't detected.
-    pub fn state(&self, k: u32, j: u32) -> Tern
+    // What flip-flop `j` of the machine of fault `k` holds after the vectors so far.
+    fn state(&self, k: u32, j: u32) -> Tern
         requires fault { k < length self.now.faults }
-        requires undetected { verdict_at self.now k ≡ None }
         requires dff { j < length self.now.circuit.dffs }
         ensures { result ≡ get_or (state_at self.now k) j Unk }
     {
         let differs = self.grades[k as usize].diffs.get(j);
         differs.unwrap_or(self.latches[j as usize])
+    }
+
+    /// What the flip-flops of the machine of fault `k` hold after the vectors so far, which has no meaning where the
+    /// fault is detected.
+    ///
+    /// # Errors
+    /// Out of memory.
+    pub fn faulty_latches(&self, alloc: Global, k: u32) -> Result<Vec<Tern>, AllocError>
+        requires { k < length self.now.faults }
+        ensures state { IfOk result (λ latches. latches.items ≡ state_at self.now k) }
+        ensures each { IfOk result (λ latches. IsStart self.now.circuit latches.items) }
+    {
+        let mut latches = Vec::new(alloc);
+        for j in 0..self.frame.dffs() {
+            latches.push(self.state(k, j))?;
+        }
+        Ok(latches)
     }
 }

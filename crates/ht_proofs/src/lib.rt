@@ -5,12 +5,18 @@
 //! isn't detected yet, 64 machines a group, or 256 where events reach most gates. What is kept of a fault is its first
 //! detection, or else where the flip-flops of its machine differ from the good ones.
 //!
-//! A fault whose machine holds the good latches is looked up first (ht_stems): its effect may die, or come to one
-//! flip-flop or one output, and then no group is needed. Of the faults that arrive at one stem with one value the first
-//! takes a lane, and the others take over its grade.
+//! Where enough faults hold the good latches, each of them is looked up first (ht_stems): its effect may die, or come to
+//! one flip-flop or one output, and then no group is needed. Of the faults that arrive at one stem with one value the
+//! first takes a lane, and the others take over its grade.
+//!
+//! A `ClassGrader` grades the representatives of all classes over lists of vectors that come one after the other, and
+//! `first_detections` over one list (`specs/Detections`). No other fault is simulated: the members of a class are
+//! detected at one first place (`ht_faults::representatives_stand_for_members`).
 #![tactic(auto)]
 
 mod batch;
+mod class_grader;
+mod detections;
 mod frame_grader;
 mod grade;
 mod grader;
@@ -18,6 +24,8 @@ mod stems;
 mod steps;
 mod theorems;
 
-pub use grader::Grader;
+pub use class_grader::ClassGrader;
+pub use detections::{first_detections, first_detections_from};
+pub use grader::{Grader, MAX_VECTORS};
 pub use steps::Steps;
 pub use theorems::{applied_vector_is_added, verdicts_are_within};

@@ -1,12 +1,12 @@
 //! Where the effects of the faults of a frame end whose machines hold the good latches.
-ghost use Rattle.std.specs.Prelude.{◌≡◌, ◌≢◌, ◌<◌, ℕ, [], Some, None, length, get_or, replicate, IfOk, OnOk};
+ghost use Rattle.std.specs.Prelude.{◌≡◌, ◌≢◌, ◌<◌, ℕ, [], Some, None, true, length, get_or, replicate, IfOk, OnOk};
 ghost use Rattle.ht_tern.specs.declared.tern.Tern.{Tern};
 ghost use Rattle.ht_net.specs.Netlist.{net_count};
 ghost use Rattle.ht_stems.specs.Arrivals.{HasLine};
 ghost use Rattle.ht_stems.specs.ArrivedFrames.{AreGoodValues};
 ghost use Rattle.ht_stems.specs.ArrivalsView.{good_of_net};
 ghost use Rattle.ht_proofs.specs.LaneGrades.{HasNoLane, grade_at};
-ghost use Rattle.ht_proofs.specs.Followers.{AreCopied, AreFollowers, GoesThrough, Joins, first_in, following, no_firsts, no_follower, with_first};
+ghost use Rattle.ht_proofs.specs.Followers.{AreCopied, AreFollowers, GoesThrough, Joins, first_in, firsts_if, following, no_firsts, no_follower, with_first};
 
 use crate::batch::Batch;
 use crate::grade::Grade;
@@ -75,6 +75,8 @@ impl Firsts {
 /// Where effects end in a frame, the faults that were the first to arrive at a stem, and those that follow them.
 #[derive(Drop)]
 pub struct Stems<'c> {
+    /// Whether it was found in this frame where effects end. If not, each fault takes a lane.
+    pub found: bool,
     pub arrivals: Arrivals<'c>,
     /// By the number of the net.
     pub firsts: Vec<Firsts>,
@@ -82,7 +84,7 @@ pub struct Stems<'c> {
 }
 
 impl<'c> Stems<'c> {
-    /// No faults, in a frame with these good values.
+    /// No faults, and no frame yet.
     ///
     /// # Errors
     /// Out of memory.
@@ -92,23 +94,31 @@ impl<'c> Stems<'c> {
         ensures table { IfOk result (λ stems. length stems.firsts.items ≡ net_count circuit.now) }
     {
         Ok(Stems {
+            found: false,
             arrivals: Arrivals::of(alloc, circuit, good)?,
             firsts: vec![in alloc; Firsts::none(); circuit.nets() as usize]?,
             followers: Vec::new(alloc),
         })
     }
 
-    /// No faults yet, in a frame with these good values.
-    pub fn start(&mut self, good: &[Tern])
+    /// No faults yet, in a frame with these good values, for which is found where effects end if that is asked for.
+    pub fn start(&mut self, good: &[Tern], find: bool)
         requires { length good.now ≡ net_count self.old.arrivals.circuit }
-        ensures arrivals { self.new.arrivals ≡ record self.old.arrivals { good = good.now } }
-        ensures firsts { self.new.firsts.items
+        ensures found { self.new.found ≡ find }
+        ensures arrivals { find ≡ true
+            → self.new.arrivals ≡ record self.old.arrivals { good = good.now } }
+        ensures circuit { self.new.arrivals.circuit ≡ self.old.arrivals.circuit }
+        ensures firsts { find ≡ true → self.new.firsts.items
             ≡ replicate (length self.old.firsts.items) no_firsts }
+        ensures table { length self.new.firsts.items ≡ length self.old.firsts.items }
         ensures followers { self.new.followers.items ≡ [] }
     {
-        self.arrivals.refill(good);
-        self.firsts.fill(Firsts::none());
+        self.found = find;
         self.followers.clear();
+        if find {
+            self.arrivals.refill(good);
+            self.firsts.fill(Firsts::none());
+        }
     }
 
     // Whether fault `i` is the first that arrives at a net with a value; if not it follows the first.
@@ -118,6 +128,7 @@ impl<'c> Stems<'c> {
             self.old.followers.items first self.new.firsts.items self.new.followers.items) }
         ensures table { length self.new.firsts.items ≡ length self.old.firsts.items }
         ensures arrivals { self.new.arrivals ≡ self.old.arrivals }
+        ensures found { self.new.found ≡ self.old.found }
     {
         let firsts = self.firsts[net.index()];
         if let Some(first) = firsts.at(value) {
@@ -145,16 +156,21 @@ impl<'c> Stems<'c> {
         requires line { HasLine batch.now.group.circuit fault.site }
         requires circuit { self.old.arrivals.circuit ≡ batch.now.group.circuit }
         requires table { length self.old.firsts.items ≡ net_count batch.now.group.circuit }
-        requires good { AreGoodValues batch.now.group.circuit batch.now.group.vector
-            batch.now.group.latches (good_of_net self.old.arrivals) }
+        requires good { self.old.found ≡ true → AreGoodValues batch.now.group.circuit
+            batch.now.group.vector batch.now.group.latches (good_of_net self.old.arrivals) }
         ensures goes { IfOk result (λ lane. GoesThrough batch.now.group fault number i
-            (grade_at grades.old i) self.old.firsts.items self.old.followers.items lane
-            (grade_at grades.new i) self.new.firsts.items self.new.followers.items) }
+            (grade_at grades.old i) (firsts_if self.old.found self.old.firsts.items)
+            self.old.followers.items lane (grade_at grades.new i)
+            (firsts_if self.new.found self.new.firsts.items) self.new.followers.items) }
         ensures others { OnOk result ((j : ℕ) → j ≢ i
             → grade_at grades.new j ≡ grade_at grades.old j) }
         ensures table { length self.new.firsts.items ≡ length self.old.firsts.items }
         ensures arrivals { self.new.arrivals ≡ self.old.arrivals }
+        ensures found { self.new.found ≡ self.old.found }
     {
+        if !self.found {
+            return Ok(true);
+        }
         if !grades[i].diffs.entries().is_empty() {
             return Ok(true);
         }

@@ -29,6 +29,7 @@ pub struct SyncTrial<'c> {
     pub frames: u32,
     ghost some: { 0 < frames },
     ghost known: { frames ≡ window.window.frames },
+    ghost good: { window.window.fault ≡ None },
 }
 
 // Whether a set holds XX.

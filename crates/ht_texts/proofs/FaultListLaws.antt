@@ -4,17 +4,17 @@ use Rattle.std.specs.Fmt.{decimal}
 use Rattle.std.specs.List.{All}
 use Rattle.std.proofs.lemmas.Bool.{cases_lt}
 use Rattle.std.proofs.lemmas.Fmt.{decimal_injective, length-decimal-le}
-use Rattle.std.proofs.lemmas.List.{get_or_append_left, length-append, length-map, map-append, same_from_push, take-map, take_more, length-take-le}
+use Rattle.std.proofs.lemmas.List.{get_or_append_left, length-append, length-map, map-append, same_from_push, take-map, take_all, take_more, length-take-le}
 use Rattle.std.proofs.lemmas.List.Elements.{All-append, All-cons, All-map, All-nil, All-take}
 use Rattle.std.proofs.Math.Seq.{get_or-append_seam, get_or-take, take-length}
-use Rattle.ht_ports.specs.LineRule.{lines_of, max_text_bytes}
+use Rattle.ht_ports.specs.LineRule.{lines_of}
 use Rattle.ht_tree.specs.Rising.{Rises}
-use Rattle.ht_texts.specs.FaultListTexts.{AreFaultLines, IsFaultListText, IsNoFaultLine, IsWrongFaultLine, IsMalformedFaultList, IsFaultListOrMalformed}
+use Rattle.ht_texts.specs.FaultListTexts.{AreFaultLines, AreSomeFaults, IsFaultListText, IsNoFaultLine, IsWrongFaultLine, IsMalformedFaultList, IsFaultListOrMalformed}
 use Rattle.ht_texts.specs.LineLengths.{IsShortLine}
 use Rattle.ht_texts.specs.Numbers.{IsNumberText}
-use Rattle.ht_texts.specs.Tests.{IsTooLong, line_of_byte}
+use Rattle.ht_texts.specs.Tests.{IsTooLong}
 use Rattle.ht_texts.proofs.ReportChoiceLaws.{same_or_not, some_below}
-use Rattle.ht_texts.proofs.ReportTextLaws.{take_again}
+use Rattle.ht_texts.proofs.WrongLineLaws.{RightOrFirst, one_first, first_of_both, short_or_long, short_is_right, all_is_right, begun_or_first}
 
 -- ---- numbers that rise
 
@@ -163,10 +163,6 @@ taken_is_next count lines numbers line all few are more =
 
 -- ---- each text is one or malformed
 
--- the lines are those of some faults
-abbrev AreSomeFaults : ℕ → List (List ℕ) → Type 0
-AreSomeFaults count lines = (numbers : List ℕ) × AreFaultLines count lines numbers
-
 next_or_none : (count : ℕ) (numbers line : List ℕ) → count < 2 ^ 64
     → ((number : ℕ) × IsNextFault count numbers line number)
     ⊎ ((number : ℕ) → ¬ IsNextFault count numbers line number)
@@ -186,7 +182,7 @@ next_or_none count numbers line few =
     ]
 
 some_or_not : (count : ℕ) (lines : List (List ℕ)) (line : List ℕ) → count < 2 ^ 64 → AreSomeFaults count lines
-    → AreSomeFaults count (lines ++ line ∷ []) ⊎ (AreSomeFaults count (lines ++ line ∷ []) → ⊥)
+    → AreSomeFaults count (lines ++ line ∷ []) ⊎ ¬ AreSomeFaults count (lines ++ line ∷ [])
 some_or_not count lines line few are = elim (next_or_none count are.0 line few) [
   | inl next ↦ inl (are.0 ++ next.0 ∷ [], next_is_taken count lines are.0 line next.0 are.1 next.1)
   | inr none ↦ inr (λ more.
@@ -194,136 +190,54 @@ some_or_not count lines line few are = elim (next_or_none count are.0 line few) 
       none next.0 next.1)
 ]
 
--- the lines up to the first with which they are those of no faults
-record StopsFaults (count : ℕ) (lines : List (List ℕ)) (k : ℕ) : Type 0 where
-  within : k < length lines
-  before : AreSomeFaults count (take k lines)
-  none : AreSomeFaults count (take (k + 1) lines) → ⊥
+-- what begins the lines of some faults are those of some
+pub front_of_faults : (count : ℕ) (lines : List (List ℕ)) (n : ℕ) → AreSomeFaults count lines
+    → AreSomeFaults count (take n lines)
+front_of_faults count lines n are = elim (cases_lt (length are.0) n) [
+  | inr within ↦ (take n are.0, first_fault_lines count lines are.0 n within are.1)
+  | inl past ↦
+      let size : length lines ≤ n = omega (
+        arith,
+        past,
+        ap (λ (l : List (List ℕ)). length l) are.1.texts,
+        length-map are.0 decimal,
+      ) in
+      (are.0, subst (λ l. AreFaultLines count l are.0) (sym (take_all n lines size)) are.1)
+]
 
-faults_or_stop : (count : ℕ) (lines : List (List ℕ)) (n : ℕ) → count < 2 ^ 64 → n ≤ length lines
-    → AreSomeFaults count (take n lines) ⊎ ((k : ℕ) × StopsFaults count lines k)
-faults_or_stop count lines zero few within = inl (
-  [],
-  record {
-    texts = refl;
-    listed = All-nil (IsListed count);
-    rises = record { next = λ i below. absurd (omega (arith, below)) };
-  },
-)
-faults_or_stop count lines (suc n) few within =
-    let more : n + 1 ≡ suc n = omega arith in
-    let line = get_or lines n [] in
-    let longer : take (n + 1) lines ≡ take n lines ++ line ∷ [] = take_more lines n [] (omega (arith, within)) in
-    elim (faults_or_stop count lines n few (omega (arith, within))) [
-      | inr stop ↦ inr stop
-      | inl so_far ↦ elim (some_or_not count (take n lines) line few so_far) [
-        | inl next ↦ inl (subst (λ k. AreSomeFaults count (take k lines)) more
-            (subst (AreSomeFaults count) (sym longer) next))
-        | inr none ↦ inr (
-          n,
-          record {
-            within = omega (arith, within);
-            before = so_far;
-            none = subst (λ l. AreSomeFaults count l → ⊥) (sym longer) none;
-          },
-        )
-      ]
-    ]
-
--- no line of those of some faults is wrong by itself
-pub fine_so_far : (count : ℕ) (text : List ℕ) (n m : ℕ) → AreSomeFaults count (take n (lines_of text))
-    → n ≤ length (lines_of text) → m ≤ n → ¬ IsNoFaultLine count text m
-fine_so_far count text n m are inside within wrong =
-    let lines = lines_of text in
-    let size : length are.0 ≡ n = sym (length-map are.0 decimal)
-    ∙ sym (ap (λ (l : List (List ℕ)). length l) are.1.texts) ∙ length-take-le n lines inside in
-    wrong.none (take m are.0) (subst (λ l. AreFaultLines count l (take m are.0)) (take_again m n lines within inside)
-    (first_fault_lines count (take n lines) are.0 m (omega (arith, within, size)) are.1))
-
-malformed_at : (count : ℕ) (text : List ℕ) (n : ℕ) → IsWrongFaultLine count text n
-    → ((m : ℕ) → m < n → ¬ IsNoFaultLine count text m) → ((m : ℕ) → m < n → ¬ IsTooLong text m)
-    → IsMalformedFaultList count text n
-malformed_at count text n wrong no_line no_long = record {
-  wrong = wrong;
-  first = λ m below other. elim other [ inl line ↦ no_line m below line | inr long ↦ no_long m below long ];
-}
+faults_or_first : (count : ℕ) (text : List ℕ) → count < 2 ^ 64
+    → RightOrFirst (AreSomeFaults count (lines_of text)) (IsNoFaultLine count text)
+faults_or_first count text few =
+    let none : AreFaultLines count [] [] = record {
+      texts = refl;
+      listed = All-nil (IsListed count);
+      rises = record { next = λ i below. absurd (omega (arith, below)) };
+    } in
+    begun_or_first (AreSomeFaults count) (front_of_faults count) ([], none)
+    (λ lines line are. some_or_not count lines line few are) text
 
 list_or_line : (count : ℕ) (text : List ℕ) → count < 2 ^ 64
     → ((numbers : List ℕ) × IsFaultListText count text numbers) ⊎ ((n : ℕ) × IsMalformedFaultList count text n)
-list_or_line count text few =
-    let lines = lines_of text in
-    let end : ℕ = line_of_byte text max_text_bytes in
-    let at_end : max_text_bytes < length text → ((m : ℕ) → m < end → ¬ IsNoFaultLine count text m)
-    → IsMalformedFaultList count text end =
-    λ long fine. malformed_at count text end (inr (record { long = long; line = refl })) fine
-    (λ m below other. omega (arith, below, other.line)) in
-    elim (faults_or_stop count lines (length lines) few (omega arith)) [
-      | inl are ↦ elim (cases_lt max_text_bytes (length text)) [
-        | inr short ↦ inl (
-          are.0,
-          record {
-            lines = subst (λ l. AreFaultLines count l are.0) (take-length lines) are.1;
-            short = short;
-          },
-        )
-        | inl long ↦ inr (
-          end,
-          at_end long
-              (λ m below wrong. fine_so_far count text (length lines) m are (omega arith) wrong.counted.1 wrong),
-        )
-      ]
-      | inr stop ↦
-          let k = stop.0 in
-          let inside = stop.1.within in
-          let wrong : IsNoFaultLine count text (k + 1) = record {
-            counted = (omega arith, omega (arith, inside));
-            none = λ numbers are. stop.1.none (numbers, are);
-          } in
-          let fine : (m : ℕ) → m < k + 1 → ¬ IsNoFaultLine count text m =
-          λ m below. fine_so_far count text k m stop.1.before (omega (arith, inside)) (omega (arith, below)) in
-          elim (cases_lt max_text_bytes (length text)) [
-            | inr short ↦ inr (
-              k + 1,
-              malformed_at count text (k + 1) (inl wrong) fine (λ m below other. omega (arith, short, other.long)),
-            )
-            | inl long ↦ elim (cases_lt end (k + 1)) [
-              | inl sooner ↦ inr (end, at_end long (λ m below. fine m (omega (arith, below, sooner))))
-              | inr later ↦ inr (
-                k + 1,
-                malformed_at count text (k + 1) (inl wrong) fine
-                    (λ m below other. omega (arith, below, later, other.line)),
-              )
-            ]
-          ]
+list_or_line count text few = elim (first_of_both (IsNoFaultLine count text) (IsTooLong text)
+    (all_is_right (AreSomeFaults count) (front_of_faults count) text) (short_is_right text)
+    (faults_or_first count text few) (short_or_long text)) [
+      | inl right ↦ inl (right.0.0, record { lines = right.0.1; short = right.1 })
+      | inr first ↦ inr first
     ]
 
 never_both : (count : ℕ) (text numbers : List ℕ) (n : ℕ) → IsFaultListText count text numbers
     → ¬ IsMalformedFaultList count text n
-never_both count text numbers n is malformed =
-    let lines = lines_of text in
-    elim malformed.wrong [
-      | inl wrong ↦ fine_so_far count text (length lines) n
-          (numbers, subst (λ l. AreFaultLines count l numbers) (sym (take-length lines)) is.lines) (omega arith)
-          wrong.counted.1 wrong
-      | inr long ↦ omega (arith, is.short, long.long)
-    ]
-
-one_line : (count : ℕ) (text : List ℕ) (m n : ℕ) → IsMalformedFaultList count text m
-    → IsMalformedFaultList count text n → m ≡ n
-one_line count text m n at_m at_n = elim (cases_lt m n) [
-  | inl below ↦ absurd (at_n.first m below at_m.wrong)
-  | inr upto ↦ elim (cases_lt n m) [
-    | inl below ↦ absurd (at_m.first n below at_n.wrong)
-    | inr same ↦ omega arith
-  ]
+never_both count text numbers n is malformed = elim malformed.wrong [
+  | inl wrong ↦ all_is_right (AreSomeFaults count) (front_of_faults count) text (numbers, is.lines) n wrong
+  | inr long ↦ short_is_right text is.short n long
 ]
 
 pub fault_list_or_malformed : (count : ℕ) (text : List ℕ) → count < 2 ^ 64 → IsFaultListOrMalformed count text
 fault_list_or_malformed count text few = record {
   either = list_or_line count text few;
   never_both = never_both count text;
-  one_list = λ a b is other. one_list count (lines_of text) a b few is.lines other.lines;
-  one_line = one_line count text;
+  one_value = λ a b is other. one_list count (lines_of text) a b few is.lines other.lines;
+  one_line = one_first (IsWrongFaultLine count text);
 }
 
 -- ---- what a reader needs

@@ -2,10 +2,11 @@
 use Rattle.std.proofs.Common.{◌≡◌, ◌≢◌, ◌==◌, ℕ, Bool, false, List, [], ◌∷◌, ◌++◌, Option, Some, None, length, append_assoc, length-append, refl, sym, ap, ◌∙◌, subst, arith}
 use Rattle.std.specs.Prelude.{◌↔◌, IsTrue, MatchOption}
 use Rattle.std.specs.Borrow.{Bor}
-use Rattle.std.specs.Fmt.{decimal}
 use Rattle.std.proofs.lemmas.Bool.{eqb-true, false≢true}
 use Rattle.std.proofs.lemmas.List.{append_cancel_left, append-nil}
 use Rattle.ht_texts.specs.Fronts.{IsRestAfter, Strips}
+use Rattle.ht_texts.specs.Pieces.{Piece, pieces_text}
+use Rattle.ht_texts.proofs.PieceLaws.{pieces_both}
 
 -- ---- words are taken off
 
@@ -29,16 +30,11 @@ strips_both {v = v} {w = w} {old = old} {rest = rest} {new = new} first second =
       (second.taken text (front ++ v) (first.taken text front is));
 }
 
--- and so are two that are taken off together
-pub strips_pair : {u : List ℕ} {old rest new : Option (Bor (List ℕ))} (v w : List ℕ) → Strips u old rest
-    → Strips (v ++ w) rest new → Strips (u ++ v ++ w) old new
-strips_pair {u = u} {old = old} {rest = rest} {new = new} v w first pair =
-    subst (λ p. Strips p old new) (sym (append_assoc u v w)) (strips_both first pair)
-
--- a number that is known by another name
-pub strips_counted : {old new : Option (Bor (List ℕ))} {m n : ℕ} (w : List ℕ) → m ≡ n
-    → Strips (w ++ decimal m) old new → Strips (w ++ decimal n) old new
-strips_counted {old = old} {new = new} w same strips = subst (λ (k : ℕ). Strips (w ++ decimal k) old new) same strips
+-- and so are pieces
+pub strips_pieces : {old rest new : Option (Bor (List ℕ))} (a b : List Piece) → Strips (pieces_text a) old rest
+    → Strips (pieces_text b) rest new → Strips (pieces_text (a ++ b)) old new
+strips_pieces {old = old} {rest = rest} {new = new} a b first second =
+    subst (λ p. Strips p old new) (sym (pieces_both a b)) (strips_both first second)
 
 -- ---- a whole text
 
@@ -87,9 +83,3 @@ is_whole word text (x ∷ rest) empty is tests = rw tests (
   λ t. absurd (omega (arith, eqb-true (length (x ∷ rest)) 0 t)),
   λ e. absurd (omega (arith, ap length (sym is ∙ e), length-append word (x ∷ rest))),
 )
-
--- nothing more is taken off
-pub strips_nothing : {word : List ℕ} {old new : Option (Bor (List ℕ))} → Strips word old new
-    → Strips (word ++ []) old new
-strips_nothing {word = word} {old = old} {new = new} strips =
-    subst (λ w. Strips w old new) (sym (append-nil word)) strips

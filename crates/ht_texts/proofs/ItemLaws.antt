@@ -15,6 +15,7 @@ use Rattle.ht_texts.specs.Verdicts.{IsSayable, place_text, says_detected, verdic
 use Rattle.ht_texts.specs.Reports.{head_line, fault_line, total_line}
 use Rattle.ht_texts.specs.SearchReports.{IsBudget}
 use Rattle.ht_texts.specs.ReportLines.{SaysItem}
+use Rattle.ht_texts.proofs.VerdictLaws.{detection_parts}
 
 -- the first line says nothing where no budget has it
 pub no_head : (c : Netlist) (representatives : List ℕ) (n : ℕ) (sums : Sums) (line : List ℕ) → n ≡ 0
@@ -77,7 +78,7 @@ pub no_verdict : (c : Netlist) (text : List ℕ)
     → ((said : Said) → says_detected said ≡ false → text ≢ verdict_text c said)
     → ((place : Place) → IsPlace c place → text ≢ codes "detected " ++ place_text c place) → (said : Said)
     → IsSayable c said → text ≢ verdict_text c said
-no_verdict c text word detected (Detected place) is e = detected place is e
+no_verdict c text word detected (Detected place) is e = detected place is (e ∙ detection_parts c place)
 no_verdict c text word detected Untestable is e = word Untestable refl e
 no_verdict c text word detected Undetectable is e = word Undetectable refl e
 no_verdict c text word detected Aborted is e = word Aborted refl e

@@ -1,3 +1,5 @@
+pub mod LineLaws
+pub mod PieceLaws
 pub mod FrontLaws
 pub mod ReportLaws
 pub mod SiteLaws
@@ -9,10 +11,11 @@ pub mod ItemLaws
 pub mod ReadingLaws
 pub mod ReportFrontLaws
 pub mod ReaderLaws
+pub mod WrongLineLaws
 pub mod ReportChoiceLaws
 pub mod ReportTextLaws
+pub mod ReportPieceLaws
 pub mod ReportWrittenLaws
-pub mod LineLaws
 pub mod NumberLaws
 pub mod StopLaws
 pub mod TestLaws

@@ -10,6 +10,7 @@ use Rattle.ht_texts.specs.declared.item.Item.TheVariants.{Head, Verdict, Member,
 use Rattle.ht_texts.specs.declared.said.Said.{Said}
 use Rattle.ht_texts.specs.declared.said.Said.TheVariants.{Undetected}
 use Rattle.ht_texts.specs.declared.total.Sums.{Sums}
+use Rattle.ht_texts.specs.Pieces.{pieces_text}
 use Rattle.ht_texts.specs.Verdicts.{said_at, IsSayable, verdict_text}
 use Rattle.ht_texts.specs.Counts.{CountsItem, representatives_below, sums_among, sums_of}
 use Rattle.ht_texts.specs.Reports.{head_line, line_front, fault_line, fault_lines, first_lines, body_lines, report_sums, total_line}
@@ -235,7 +236,7 @@ bodies_count_alike c representatives budget budget' a b n same i below own =
     let line : get_or (fault_lines c representatives a n) i [] ≡ get_or (fault_lines c representatives b n) i [] =
     ap (λ l. get_or l (suc i) []) same in
     same_kind c (said_at a i) (said_at b i)
-    (append_cancel_left (line_front c i) (verdict_text c (said_at a i)) (verdict_text c (said_at b i))
+    (append_cancel_left (pieces_text (line_front c i)) (verdict_text c (said_at a i)) (verdict_text c (said_at b i))
     (sym (line_of_representative c representatives i (said_at a i) own)
     ∙ sym (get_or-fault_lines c representatives a n i below)
     ∙ line

@@ -1,8 +1,7 @@
 -- Whether a line says anything: each line of a text is a report's there, or none's.
-use Rattle.std.proofs.Common.{◌≡◌, ◌≢◌, ◌⊎◌, inl, inr, ℕ, zero, suc, ◌+◌, ◌-◌, ◌<◌, ◌≤◌, ◌^◌, List, [], ◌∷◌, ◌++◌, Some, length, get_or, take, refl, sym, ap, ◌∙◌, subst, arith}
+use Rattle.std.proofs.Common.{◌≡◌, ◌≢◌, ◌⊎◌, inl, inr, ℕ, zero, suc, ◌+◌, ◌-◌, ◌<◌, ◌^◌, List, [], ◌∷◌, ◌++◌, Some, length, refl, sym, ap, ◌∙◌, subst, arith}
 use Rattle.std.specs.Str.{bytes_eq}
 use Rattle.std.proofs.lemmas.Bool.{cases_lt, cases_eq, cases_Bool, both_ways}
-use Rattle.std.proofs.lemmas.List.{take_more}
 use Rattle.std.proofs.lemmas.Slice.Eq.{bytes_eq-Decides}
 use Rattle.ht_net.specs.declared.place.Place.{Place}
 use Rattle.ht_net.specs.Netlist.{Netlist}
@@ -19,10 +18,12 @@ use Rattle.ht_texts.specs.Counts.{one_if, CountsItem}
 use Rattle.ht_texts.specs.Verdicts.{IsSayable, says_detected, says_untestable, says_undetectable, says_aborted, says_undetected}
 use Rattle.ht_texts.specs.Reports.{head_line, fault_line, total_line}
 use Rattle.ht_texts.specs.ReportLines.{SaysItem}
-use Rattle.ht_texts.specs.ReportReading.{ReportReading, before_report, ReportReadsTo, read_on}
+use Rattle.ht_texts.specs.ReportReading.{read_on}
+use Rattle.ht_texts.specs.SearchReports.{IsReportFront}
 use Rattle.ht_texts.specs.ReportStands.{sums_read}
 use Rattle.ht_texts.proofs.ItemLaws.{no_head, no_fault_line, no_total}
 use Rattle.ht_texts.proofs.ReadingLaws.{item_read, next_line_says}
+use Rattle.ht_texts.proofs.ReportFrontLaws.{reading_is_front, front_is_reading}
 use Rattle.ht_texts.proofs.SaidLaws.{line_of_member}
 
 -- ---- what is decided
@@ -199,58 +200,20 @@ counted (Verdict i said) old = (
 counted (Member i) old = (old, refl)
 counted Total old = (old, refl)
 
--- a line after those that are read is read too, or none is
-pub read_or_not : (c : Netlist) (representatives : List ℕ) (lines : List (List ℕ)) (at : ReportReading)
-    (line : List ℕ) → length representatives ≡ length (faults_of c) → ReportReadsTo c representatives lines at
-    → ((next : ReportReading) × ReportReadsTo c representatives (lines ++ line ∷ []) next)
-    ⊎ ((next : ReportReading) → ¬ ReportReadsTo c representatives (lines ++ line ∷ []) next)
-read_or_not c representatives lines at line listed read =
-    let sums = sums_read representatives at in
+-- a report goes on with a line after those that begin one, or none does
+pub front_or_not : (c : Netlist) (representatives : List ℕ) → length representatives ≡ length (faults_of c)
+    → (lines : List (List ℕ)) (line : List ℕ) → IsReportFront c representatives lines
+    → IsReportFront c representatives (lines ++ line ∷ []) ⊎ ¬ IsReportFront c representatives (lines ++ line ∷ [])
+front_or_not c representatives listed lines line front =
+    let at = front_is_reading c representatives lines front in
+    let sums = sums_read representatives at.0 in
     elim (says_or_not c representatives (length lines) sums line) [
       | inl found ↦
           let after = counted found.0 sums in
-          inl (
-            read_on at found.0,
-            (item_read c representatives lines at line found.0 sums after.0 listed read refl found.1 after.1).read,
-          )
-      | inr none ↦ inr (λ next more.
-          let found = next_line_says c representatives lines at next line sums listed read refl more in
+          inl (reading_is_front c representatives (lines ++ line ∷ []) (read_on at.0 found.0)
+          (item_read c representatives lines at.0 line found.0 sums after.0 listed at.1 refl found.1 after.1).read)
+      | inr none ↦ inr (λ more.
+          let next = front_is_reading c representatives (lines ++ line ∷ []) more in
+          let found = next_line_says c representatives lines at.0 next.0 line sums listed at.1 refl next.1 in
           none found.0 found.1)
-    ]
-
--- the lines up to the first after which no report goes on
-pub record StopsReport (c : Netlist) (representatives : List ℕ) (lines : List (List ℕ)) (k : ℕ) : Type 0 where
-  pub within : k < length lines
-  pub none : (next : ReportReading) → ¬ ReportReadsTo c representatives (take (k + 1) lines) next
-  pub at : ReportReading
-  pub before : ReportReadsTo c representatives (take k lines) at
-
-pub read_or_stop : (c : Netlist) (representatives : List ℕ) (lines : List (List ℕ)) (n : ℕ)
-    → length representatives ≡ length (faults_of c) → n ≤ length lines
-    → ((at : ReportReading) × ReportReadsTo c representatives (take n lines) at)
-    ⊎ ((k : ℕ) × StopsReport c representatives lines k)
-read_or_stop c representatives lines zero listed within =
-    inl (before_report, record { readable = tt; lines_are = refl })
-read_or_stop c representatives lines (suc n) listed within =
-    let more : n + 1 ≡ suc n = omega arith in
-    let line = get_or lines n [] in
-    let longer : take (n + 1) lines ≡ take n lines ++ line ∷ [] = take_more lines n [] (omega (arith, within)) in
-    elim (read_or_stop c representatives lines n listed (omega (arith, within))) [
-      | inr stop ↦ inr stop
-      | inl so_far ↦ elim (read_or_not c representatives (take n lines) so_far.0 line listed so_far.1) [
-        | inl next ↦ inl (
-          next.0,
-          subst (λ k. ReportReadsTo c representatives (take k lines) next.0) more
-              (subst (λ l. ReportReadsTo c representatives l next.0) (sym longer) next.1),
-        )
-        | inr none ↦ inr (
-          n,
-          record {
-            within = omega (arith, within);
-            none = λ next. subst (λ l. ¬ ReportReadsTo c representatives l next) (sym longer) (none next);
-            at = so_far.0;
-            before = so_far.1;
-          },
-        )
-      ]
     ]

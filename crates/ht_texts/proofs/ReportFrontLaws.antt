@@ -13,6 +13,7 @@ use Rattle.ht_faults.specs.Sites.{faults_of}
 use Rattle.ht_faults.specs.Classes.{is_representative}
 use Rattle.ht_texts.specs.declared.said.Said.{Said}
 use Rattle.ht_texts.specs.declared.said.Said.TheVariants.{Untestable, Undetected}
+use Rattle.ht_texts.specs.Pieces.{pieces_text}
 use Rattle.ht_texts.specs.Verdicts.{said_at, AreSayableTo, IsSayable, verdict_text}
 use Rattle.ht_texts.specs.Reports.{circuit_sizes, fault_sizes, head_line, line_front, fault_line, fault_lines, first_lines, body_lines, report_sums, total_line, report_lines}
 use Rattle.ht_texts.specs.SearchReports.{IsSearchOf, IsSearchReport, IsReportFront}
@@ -201,9 +202,8 @@ one_budget : (c : Netlist) (representatives : List ℕ) (a b : ℕ) → a < 2 ^ 
     → head_line c representatives (Some a) ≡ head_line c representatives (Some b) → a ≡ b
 one_budget c representatives a b a_fits b_fits e =
     decimal_injective a b a_fits b_fits
-    (append_cancel_left (codes " budget ") (decimal a) (decimal b)
-    (append_cancel_left (circuit_sizes c ++ fault_sizes c representatives) (codes " budget " ++ decimal a)
-    (codes " budget " ++ decimal b) e))
+    (append_cancel_left (pieces_text (circuit_sizes c ++ fault_sizes c representatives) ++ codes " budget ")
+    (decimal a) (decimal b) e)
 
 one_said : (c : Netlist) (representatives : List ℕ) (a b : List Said) (n i : ℕ) → IsCircuit c
     → AreSayableTo c representatives n a → AreSayableTo c representatives n b
@@ -213,7 +213,7 @@ one_said c representatives a b n i is of_a of_b same own = elim (cases_lt i n) [
   | inl below ↦
       one_verdict c (said_at a i) (said_at b i) is (of_a.sayable i below own)
       (of_b.sayable i below own)
-      (append_cancel_left (line_front c i) (verdict_text c (said_at a i)) (verdict_text c (said_at b i))
+      (append_cancel_left (pieces_text (line_front c i)) (verdict_text c (said_at a i)) (verdict_text c (said_at b i))
       (sym (line_of_representative c representatives i (said_at a i) own)
       ∙ sym (get_or-fault_lines c representatives a n i below)
       ∙ ap (λ l. get_or l i []) same

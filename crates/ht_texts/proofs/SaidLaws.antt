@@ -1,7 +1,6 @@
 -- What is said of the first faults, and their lines.
 use Rattle.std.proofs.Common.{◌≡◌, inl, inr, ℕ, ◌+◌, ◌<◌, true, false, List, [], ◌∷◌, ◌++◌, length, get_or, refl, sym, ap, ◌∙◌, arith}
 use Rattle.std.specs.Prelude.{codes}
-use Rattle.std.specs.Fmt.{decimal}
 use Rattle.std.proofs.lemmas.Bool.{cases_Bool}
 use Rattle.std.proofs.lemmas.List.{get_or_append_left}
 use Rattle.std.proofs.lemmas.List.FromFn.{map-range_with_len_more, length-map-range_with_len, get_or-map-range_with_len, fill_by_all}
@@ -10,8 +9,10 @@ use Rattle.ht_net.specs.Netlist.{Netlist}
 use Rattle.ht_faults.specs.Classes.{is_representative}
 use Rattle.ht_texts.specs.declared.said.Said.{Said}
 use Rattle.ht_texts.specs.declared.said.Said.TheVariants.{Undetected}
-use Rattle.ht_texts.specs.Verdicts.{said_at, verdict_text}
-use Rattle.ht_texts.specs.Reports.{outcome_text, line_front, fault_line, fault_lines}
+use Rattle.ht_texts.specs.Pieces.{Piece, word, number, pieces_text}
+use Rattle.ht_texts.specs.Verdicts.{said_at, verdict_pieces, verdict_text}
+use Rattle.ht_texts.specs.Reports.{outcome_pieces, line_front, fault_line, fault_lines}
+use Rattle.ht_texts.proofs.PieceLaws.{pieces_both}
 
 -- ---- one verdict more
 
@@ -24,26 +25,35 @@ said_last saids said = get_or-append_seam saids said [] Undetected
 -- ---- the line of a fault
 
 pub outcome_of_representative : (c : Netlist) (representatives : List ℕ) (i : ℕ) (said : Said)
-    → is_representative representatives i ≡ true → outcome_text c representatives i said ≡ verdict_text c said
+    → is_representative representatives i ≡ true → outcome_pieces c representatives i said ≡ verdict_pieces c said
 outcome_of_representative c representatives i said own = rw own refl
 
 pub outcome_of_member : (c : Netlist) (representatives : List ℕ) (i : ℕ) (said : Said)
     → is_representative representatives i ≡ false
-    → outcome_text c representatives i said ≡ codes "as " ++ decimal (get_or representatives i 0 + 1)
+    → outcome_pieces c representatives i said
+    ≡ word (codes "as ") ∷ number (get_or representatives i 0 + 1) ∷ []
 outcome_of_member c representatives i said other = rw other refl
+
+-- the line begins with the fault
+pub line_parts : (c : Netlist) (representatives : List ℕ) (i : ℕ) (said : Said) (outcome : List Piece)
+    → outcome_pieces c representatives i said ≡ outcome
+    → fault_line c representatives i said ≡ pieces_text (line_front c i) ++ pieces_text outcome
+line_parts c representatives i said outcome is =
+    ap (λ p. pieces_text (line_front c i ++ p)) is ∙ pieces_both (line_front c i) outcome
 
 pub line_of_representative : (c : Netlist) (representatives : List ℕ) (i : ℕ) (said : Said)
     → is_representative representatives i ≡ true
-    → fault_line c representatives i said ≡ line_front c i ++ verdict_text c said
+    → fault_line c representatives i said ≡ pieces_text (line_front c i) ++ verdict_text c said
 line_of_representative c representatives i said own =
-    ap (λ t. line_front c i ++ t) (outcome_of_representative c representatives i said own)
+    line_parts c representatives i said (verdict_pieces c said)
+    (outcome_of_representative c representatives i said own)
 
 -- what is said of a fault that isn't its own representative has no effect
 pub line_of_member : (c : Netlist) (representatives : List ℕ) (i : ℕ) (a b : Said)
     → is_representative representatives i ≡ false
     → fault_line c representatives i a ≡ fault_line c representatives i b
 line_of_member c representatives i a b other =
-    ap (λ t. line_front c i ++ t) (outcome_of_member c representatives i a other
+    ap (λ p. pieces_text (line_front c i ++ p)) (outcome_of_member c representatives i a other
     ∙ sym (outcome_of_member c representatives i b other))
 
 -- ---- the lines of the first faults

@@ -112,7 +112,7 @@ pub start_or_malformed : (width : ℕ) (text : List ℕ) → IsStartOrMalformed 
 start_or_malformed width text = record {
   either = text_or_malformed width text;
   never_both = never_both width text;
-  one_start = λ a b is other. one_start width (line_at text 1) a b is.line other.line;
+  one_value = λ a b is other. one_start width (line_at text 1) a b is.line other.line;
   one_line = one_line width text;
 }
 

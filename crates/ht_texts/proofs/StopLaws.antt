@@ -1,34 +1,39 @@
 -- Lines are the texts of vectors, up to the first that is the text of none.
-use Rattle.std.proofs.Common.{◌≡◌, ◌⊎◌, inl, inr, ℕ, zero, suc, ◌+◌, ◌-◌, ◌<◌, ◌≤◌, List, [], ◌∷◌, Bool, length, get_or, map, refl, ap, ◌∙◌, subst, arith}
+use Rattle.std.proofs.Common.{◌≡◌, ◌≢◌, ◌⊎◌, inl, inr, ℕ, zero, suc, ◌+◌, ◌-◌, ◌<◌, ◌≤◌, List, [], ◌∷◌, Bool, length, get_or, map, refl, ap, ◌∙◌, subst, arith}
 use Rattle.std.specs.List.{All}
 use Rattle.std.proofs.lemmas.List.{length-map, get_or-map}
 use Rattle.std.proofs.lemmas.List.Elements.{All-nil, All-cons}
 use Rattle.ht_net.specs.Netlist.{Netlist}
 use Rattle.ht_ports.specs.LineRule.{lines_of}
-use Rattle.ht_texts.specs.Tests.{vector_text, IsTextOf, IsNoVector}
-use Rattle.ht_texts.proofs.VectorLaws.{vector_or_none}
+use Rattle.ht_texts.specs.Tests.{bit_code, IsCoded, IsTextOf, IsNoVector}
+use Rattle.ht_texts.proofs.CodedLaws.{coded_or_none}
+use Rattle.ht_texts.proofs.VectorLaws.{bit_or_none}
 
-pub record AreVectorLines (width : ℕ) (lines : List (List ℕ)) (list : List (List Bool)) : Type 0 where
-  pub texts : lines ≡ map vector_text list
-  pub widths : All (λ (vector : List Bool). length vector ≡ width) list
+-- the lines are those of lists of so many values
+pub record AreCodedLines {A : Type 0} (code : A → ℕ) (width : ℕ) (lines : List (List ℕ)) (list : List (List A))
+    : Type 0 where
+  pub texts : lines ≡ map (λ values. map code values) list
+  pub widths : All (λ (values : List A). length values ≡ width) list
 
-pub record StopsAt (width : ℕ) (lines : List (List ℕ)) (k : ℕ) : Type 0 where
+-- the lines before line k are, and line k is that of no values
+pub record StopsCoded {A : Type 0} (code : A → ℕ) (width : ℕ) (lines : List (List ℕ)) (k : ℕ) : Type 0 where
   pub within : k < length lines
-  pub none : (vector : List Bool) → ¬ IsTextOf width (get_or lines k []) vector
-  pub before : (j : ℕ) → j < k → (vector : List Bool) × IsTextOf width (get_or lines j []) vector
+  pub none : (values : List A) → ¬ IsCoded code width (get_or lines k []) values
+  pub before : (j : ℕ) → j < k → (values : List A) × IsCoded code width (get_or lines j []) values
 
-pub vectors_or_stop : (width : ℕ) (lines : List (List ℕ)) → ((list : List (List Bool)) × AreVectorLines width lines list)
-    ⊎ ((k : ℕ) × StopsAt width lines k)
-vectors_or_stop width [] = inl
-    ([], record { texts = refl; widths = All-nil (λ (vector : List Bool). length vector ≡ width) })
-vectors_or_stop width (line ∷ lines) = elim (vector_or_none width line) [
+pub coded_or_stop : {A : Type 0} (code : A → ℕ)
+    → ((x : ℕ) → ((value : A) × (x ≡ code value)) ⊎ ((value : A) → x ≢ code value)) → (width : ℕ) (lines : List (List ℕ))
+    → ((list : List (List A)) × AreCodedLines code width lines list) ⊎ ((k : ℕ) × StopsCoded code width lines k)
+coded_or_stop {A = A} code value_or_none width [] = inl
+    ([], record { texts = refl; widths = All-nil (λ (values : List A). length values ≡ width) })
+coded_or_stop {A = A} code value_or_none width (line ∷ lines) = elim (coded_or_none code value_or_none width line) [
   | inr none ↦ inr (0, record { within = omega arith; none = none; before = λ j below. absurd (omega arith) })
-  | inl here ↦ elim (vectors_or_stop width lines) [
+  | inl here ↦ elim (coded_or_stop code value_or_none width lines) [
     | inl rest ↦ inl (
       here.0 ∷ rest.0,
       record {
         texts = let e = here.1.characters in let f = rest.1.texts in cc;
-        widths = All-cons (λ (vector : List Bool). length vector ≡ width) here.0 rest.0 here.1.count rest.1.widths;
+        widths = All-cons (λ (values : List A). length values ≡ width) here.0 rest.0 here.1.count rest.1.widths;
       },
     )
     | inr stop ↦ inr (
@@ -37,7 +42,7 @@ vectors_or_stop width (line ∷ lines) = elim (vector_or_none width line) [
         within = omega (arith, stop.1.within);
         none = stop.1.none;
         before = λ j. elim j as
-            (λ i. i < suc stop.0 → (vector : List Bool) × IsTextOf width (get_or (line ∷ lines) i []) vector) [
+            (λ i. i < suc stop.0 → (values : List A) × IsCoded code width (get_or (line ∷ lines) i []) values) [
               | zero ↦ λ _. here
               | suc i ↦ λ below. stop.1.before i (omega arith)
             ];
@@ -46,25 +51,37 @@ vectors_or_stop width (line ∷ lines) = elim (vector_or_none width line) [
   ]
 ]
 
--- ---- where no line is wrong by itself, and where one is
-
--- each line of a list's text is a vector's
-vector_at : (width : ℕ) (lines : List (List ℕ)) (list : List (List Bool)) → AreVectorLines width lines list → (k : ℕ)
-    → k < length lines
-    → (vector : List Bool) × IsTextOf width (get_or lines k []) vector
-vector_at width lines list are k below =
-    let inside : k < length list = omega (arith, ap length are.texts ∙ length-map list vector_text) in (
+-- each line is that of some values
+pub coded_at : {A : Type 0} (code : A → ℕ) (width : ℕ) (lines : List (List ℕ)) (list : List (List A))
+    → AreCodedLines code width lines list → (k : ℕ) → k < length lines
+    → (values : List A) × IsCoded code width (get_or lines k []) values
+coded_at code width lines list are k below =
+    let inside : k < length list = omega (arith, ap length are.texts ∙ length-map list (λ values. map code values)) in (
       get_or list k [],
       record {
-        characters = ap (λ l. get_or l k []) are.texts ∙ get_or-map vector_text list k [] [] inside;
+        characters = ap (λ l. get_or l k []) are.texts ∙ get_or-map (λ values. map code values) list k [] [] inside;
         count = are.widths k [] inside;
       },
     )
 
+-- ---- vectors
+
+abbrev pub AreVectorLines : ℕ → List (List ℕ) → List (List Bool) → Type 0
+AreVectorLines width lines list = AreCodedLines bit_code width lines list
+
+abbrev pub StopsAt : ℕ → List (List ℕ) → ℕ → Type 0
+StopsAt width lines k = StopsCoded bit_code width lines k
+
+pub vectors_or_stop : (width : ℕ) (lines : List (List ℕ)) → ((list : List (List Bool)) × AreVectorLines width lines list)
+    ⊎ ((k : ℕ) × StopsAt width lines k)
+vectors_or_stop = coded_or_stop bit_code bit_or_none
+
+-- ---- where no line is wrong by itself, and where one is
+
 pub no_wrong_line : (c : Netlist) (text : List ℕ) (list : List (List Bool)) → AreVectorLines c.inputs (lines_of text) list
     → (n : ℕ) → ¬ IsNoVector c text n
 no_wrong_line c text list are n bad =
-    let found = vector_at c.inputs (lines_of text) list are (n - 1) (omega (arith, bad.counted.0, bad.counted.1)) in
+    let found = coded_at bit_code c.inputs (lines_of text) list are (n - 1) (omega (arith, bad.counted.0, bad.counted.1)) in
     bad.none found.0 found.1
 
 -- the lines before the one where the reading stops are not wrong by themselves

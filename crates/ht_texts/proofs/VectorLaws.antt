@@ -3,8 +3,8 @@ use Rattle.std.proofs.Common.{◌≡◌, ◌≢◌, ◌⊎◌, inl, inr, ℕ, Li
 use Rattle.std.proofs.lemmas.Bool.{cases_eq}
 use Rattle.ht_tern.specs.declared.tern.Tern.{Tern}
 use Rattle.ht_tern.specs.declared.tern.Tern.TheVariants.{Zero, One, Unk}
-use Rattle.ht_texts.specs.Tests.{bit_code, tern_code, vector_text, IsTextOf}
-use Rattle.ht_texts.proofs.CodedLaws.{coded_or_none, map_injective}
+use Rattle.ht_texts.specs.Tests.{bit_code, tern_code, vector_text}
+use Rattle.ht_texts.proofs.CodedLaws.{map_injective}
 
 bit_code_injective : (a b : Bool) → bit_code a ≡ bit_code b → a ≡ b
 bit_code_injective false false e = refl
@@ -27,7 +27,7 @@ pub vector_text_injective : (a b : List Bool) → vector_text a ≡ vector_text 
 vector_text_injective = map_injective bit_code bit_code_injective
 
 -- a character is a bit's or no bit's
-bit_or_none : (x : ℕ) → ((bit : Bool) × (x ≡ bit_code bit)) ⊎ ((bit : Bool) → x ≢ bit_code bit)
+pub bit_or_none : (x : ℕ) → ((bit : Bool) × (x ≡ bit_code bit)) ⊎ ((bit : Bool) → x ≢ bit_code bit)
 bit_or_none x = elim (cases_eq x 48) [
   | inl is_0 ↦ inl (false, is_0)
   | inr not_0 ↦ elim (cases_eq x 49) [
@@ -35,8 +35,3 @@ bit_or_none x = elim (cases_eq x 48) [
     | inr not_1 ↦ inr (λ bit. elim bit as (λ b. x ≢ bit_code b) [ false ↦ not_0 | true ↦ not_1 ])
   ]
 ]
-
--- a line is the text of one vector or of none
-pub vector_or_none : (width : ℕ) (line : List ℕ) → ((vector : List Bool) × IsTextOf width line vector)
-    ⊎ ((vector : List Bool) → ¬ IsTextOf width line vector)
-vector_or_none = coded_or_none bit_code bit_or_none

@@ -19,7 +19,8 @@ use Rattle.ht_net.specs.Detection.{IsPlace}
 use Rattle.ht_texts.specs.declared.said.Said.{Said}
 use Rattle.ht_texts.specs.declared.said.Said.TheVariants.{Detected, Untestable, Undetectable, Aborted, Undetected}
 use Rattle.ht_texts.specs.Sites.{output_text}
-use Rattle.ht_texts.specs.Verdicts.{IsSayable, kind_number, place_text, verdict_text}
+use Rattle.ht_texts.specs.Verdicts.{IsSayable, kind_number, place_pieces, place_text, verdict_text}
+use Rattle.ht_texts.proofs.PieceLaws.{added}
 
 -- ---- the kind
 
@@ -69,6 +70,11 @@ no_place_kind a b p at is kinds =
     let other : kind_number b ≡ 4 = ap kind_number (is ∙ ap of_kind here) in
     omega (arith, here, other)
 
+-- a detection is a word and its place
+pub detection_parts : (c : Netlist) (place : Place)
+    → verdict_text c (Detected place) ≡ codes "detected " ++ place_text c place
+detection_parts c place = added (codes "detected ") (place_pieces c place)
+
 -- the same verdict, or both are a detection
 same_text : (c : Netlist) (a b : Said) → verdict_text c a ≡ verdict_text c b → (a ≡ b) ⊎ BothDetected c a b
 same_text c a b e = elim (kind_or_place a) [
@@ -84,7 +90,8 @@ same_text c a b e = elim (kind_or_place a) [
       at_a.1,
       at_b.1,
       append_cancel_left (codes "detected ") (place_text c at_a.0) (place_text c at_b.0)
-          (sym (ap (verdict_text c) at_a.1) ∙ e ∙ ap (verdict_text c) at_b.1),
+          (sym (detection_parts c at_a.0) ∙ sym (ap (verdict_text c) at_a.1) ∙ e ∙ ap (verdict_text c) at_b.1
+          ∙ detection_parts c at_b.0),
     )
   ]
 ]

@@ -1,7 +1,10 @@
 pub mod Lines
 pub mod LineLengths
 pub mod Numbers
+pub mod Pieces
+pub mod PiecesOf
 pub mod Fronts
+pub mod WrongLines
 pub mod Tests
 pub mod StartTexts
 pub mod FaultListTexts

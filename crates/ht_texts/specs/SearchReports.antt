@@ -1,5 +1,5 @@
 -- The report of a search: what it may say, which texts are one, and where a text that is none goes wrong.
-use Rattle.std.specs.Prelude.{◌≡◌, ◌==◌, ℕ, ◌+◌, ◌<◌, ◌≤◌, ◌⊎◌, List, ◌++◌, take, Bool, not, ◌&&◌, IsTrue, length, Some}
+use Rattle.std.specs.Prelude.{◌≡◌, ◌==◌, ℕ, ◌+◌, ◌<◌, ◌≤◌, ◌⊎◌, List, ◌++◌, Bool, not, ◌&&◌, IsTrue, length, Some}
 use Rattle.std.specs.List.{All, list_all}
 use Rattle.ht_net.specs.Netlist.{Netlist}
 use Rattle.ht_faults.specs.Sites.{faults_of}
@@ -7,6 +7,7 @@ use Rattle.ht_ports.specs.LineRule.{lines_of, max_text_bytes}
 use Rattle.ht_tree.specs.declared.limits.TheConstants.{MAX_BUDGET}
 use Rattle.ht_texts.specs.declared.said.Said.{Said}
 use Rattle.ht_texts.specs.Tests.{IsTooLong}
+use Rattle.ht_texts.specs.WrongLines.{IsNoNextLine, IsFirst}
 use Rattle.ht_texts.specs.Verdicts.{AreSayableTo}
 use Rattle.ht_texts.specs.Reports.{report_lines}
 
@@ -60,9 +61,8 @@ abbrev pub HasShortNames : Netlist → Type 0
 HasShortNames c = All (λ (name : List ℕ). length name ≤ max_short_name_bytes) c.names
 
 -- line n is there, and no report has it after the lines before it
-pub record IsNoReportLine (c : Netlist) (representatives : List ℕ) (text : List ℕ) (n : ℕ) : Type 0 where
-  pub counted : (0 < n) × (n ≤ length (lines_of text))
-  pub none : ¬ IsReportFront c representatives (take n (lines_of text))
+abbrev pub IsNoReportLine : Netlist → List ℕ → List ℕ → ℕ → Type 0
+IsNoReportLine c representatives text n = IsNoNextLine (IsReportFront c representatives) text n
 
 -- the text ends before line n, though no report ends there
 pub record EndsTooEarly (c : Netlist) (representatives : List ℕ) (text : List ℕ) (n : ℕ) : Type 0 where
@@ -75,6 +75,5 @@ IsWrongReportLine c representatives text n =
     IsNoReportLine c representatives text n ⊎ (EndsTooEarly c representatives text n ⊎ IsTooLong text n)
 
 -- The text is no report of a search of the circuit, and line n, from 1, is the first that shows it.
-pub record IsMalformedReport (c : Netlist) (representatives : List ℕ) (text : List ℕ) (n : ℕ) : Type 0 where
-  pub wrong : IsWrongReportLine c representatives text n
-  pub first : (m : ℕ) → m < n → ¬ IsWrongReportLine c representatives text m
+abbrev pub IsMalformedReport : Netlist → List ℕ → List ℕ → ℕ → Type 0
+IsMalformedReport c representatives text n = IsFirst (IsWrongReportLine c representatives text) n

@@ -6,6 +6,7 @@ use Rattle.ht_tern.specs.declared.tern.Tern.{Tern}
 use Rattle.ht_tern.specs.declared.tern.Tern.TheVariants.{Zero, One, Unk}
 use Rattle.ht_ports.specs.LineRule.{lines_of, max_text_bytes}
 use Rattle.ht_texts.specs.Lines.{with_lfs}
+use Rattle.ht_texts.specs.WrongLines.{IsFirst, IsTextOrMalformed}
 
 -- the character of a bit, `0` or `1`
 abbrev pub bit_code : Bool → ℕ
@@ -69,13 +70,9 @@ abbrev pub IsWrongLine : Netlist → List ℕ → ℕ → Type 0
 IsWrongLine c text n = IsNoVector c text n ⊎ IsTooLong text n
 
 -- The text is no test text of the circuit, and line n, from 1, is the first that shows it.
-pub record IsMalformedTest (c : Netlist) (text : List ℕ) (n : ℕ) : Type 0 where
-  pub wrong : IsWrongLine c text n
-  pub first : (m : ℕ) → m < n → ¬ IsWrongLine c text m
+abbrev pub IsMalformedTest : Netlist → List ℕ → ℕ → Type 0
+IsMalformedTest c text n = IsFirst (IsWrongLine c text) n
 
 -- The text is the test text of one list of vectors, or malformed at one line: never both, and never neither.
-pub record IsTestOrMalformed (c : Netlist) (text : List ℕ) : Type 0 where
-  pub either : ((list : List (List Bool)) × IsTestText c text list) ⊎ ((n : ℕ) × IsMalformedTest c text n)
-  pub never_both : (list : List (List Bool)) (n : ℕ) → IsTestText c text list → ¬ IsMalformedTest c text n
-  pub one_list : (a b : List (List Bool)) → IsTestText c text a → IsTestText c text b → a ≡ b
-  pub one_line : (m n : ℕ) → IsMalformedTest c text m → IsMalformedTest c text n → m ≡ n
+abbrev pub IsTestOrMalformed : Netlist → List ℕ → Type 0
+IsTestOrMalformed c text = IsTextOrMalformed (IsTestText c text) (IsMalformedTest c text)

@@ -1,7 +1,6 @@
 -- What a report says of the representatives of classes. A list has what is said of each fault, by number from 0; of a
 -- fault that isn't its own representative it has no effect.
-use Rattle.std.specs.Prelude.{◌≡◌, ◌==◌, ℕ, ◌+◌, ◌<◌, List, ◌++◌, Bool, true, length, get_or, map, Option, Some, None, codes}
-use Rattle.std.specs.Fmt.{decimal}
+use Rattle.std.specs.Prelude.{◌≡◌, ◌==◌, ℕ, ◌+◌, ◌<◌, List, [], ◌∷◌, Bool, true, length, get_or, map, Option, Some, None, codes}
 use Rattle.ht_net.specs.declared.place.Place.{Place}
 use Rattle.ht_net.specs.Netlist.{Netlist}
 use Rattle.ht_net.specs.Detection.{IsPlace}
@@ -9,6 +8,7 @@ use Rattle.ht_faults.specs.Sites.{faults_of}
 use Rattle.ht_faults.specs.Classes.{is_representative}
 use Rattle.ht_texts.specs.declared.said.Said.{Said}
 use Rattle.ht_texts.specs.declared.said.Said.TheVariants.{Detected, Untestable, Undetectable, Aborted, Undetected}
+use Rattle.ht_texts.specs.Pieces.{Piece, word, number, name, pieces_text}
 use Rattle.ht_texts.specs.Sites.{output_text}
 
 -- what is said of fault i; nothing more than undetected after the last fault
@@ -37,16 +37,24 @@ AreSayable c representatives saids = AreSayableTo c representatives (length (fau
 -- ---- the words
 
 -- the number of the vector, from 1, and the name of the output
-abbrev pub place_text : Netlist → Place → List ℕ
-place_text c place = decimal (place.vector + 1) ++ codes " " ++ output_text c place.output
+abbrev pub place_pieces : Netlist → Place → List Piece
+place_pieces c place = number (place.vector + 1) ∷ word (codes " ") ∷ name (output_text c place.output) ∷ []
 
 -- where the first detection is, or why there is none
+abbrev pub verdict_pieces : Netlist → Said → List Piece
+verdict_pieces c (Detected place) = word (codes "detected ") ∷ place_pieces c place
+verdict_pieces c Untestable = word (codes "untestable") ∷ []
+verdict_pieces c Undetectable = word (codes "undetectable") ∷ []
+verdict_pieces c Aborted = word (codes "aborted") ∷ []
+verdict_pieces c Undetected = word (codes "undetected") ∷ []
+
+-- a place as bytes
+abbrev pub place_text : Netlist → Place → List ℕ
+place_text c place = pieces_text (place_pieces c place)
+
+-- a verdict as bytes
 abbrev pub verdict_text : Netlist → Said → List ℕ
-verdict_text c (Detected place) = codes "detected " ++ place_text c place
-verdict_text c Untestable = codes "untestable"
-verdict_text c Undetectable = codes "undetectable"
-verdict_text c Aborted = codes "aborted"
-verdict_text c Undetected = codes "undetected"
+verdict_text c said = pieces_text (verdict_pieces c said)
 
 -- ---- the kinds of verdict
 

@@ -8,7 +8,7 @@ use crate::said::Said;
 use crate::total::Sums;
 use ht_faults::Classes;
 
-// How many classes there are.
+/// How many classes there are.
 #[tactic(auto, using(ht_faults::proofs::OwnLaws::own_within))]
 pub fn count_classes(classes: &Classes) -> u32
     ensures { result ≡ class_count classes.now }

@@ -2,10 +2,12 @@
 ghost use Rattle.std.specs.Prelude.{◌≡◌, ◌++◌, IfOk, OnOk};
 ghost use Rattle.ht_faults.specs.Classes.{AreClasses};
 ghost use Rattle.ht_texts.specs.Lines.{with_lf};
-ghost use Rattle.ht_texts.specs.Reports.{circuit_sizes, budget_text, head_line};
+ghost use Rattle.ht_texts.specs.Pieces.{add_pieces};
+ghost use Rattle.ht_texts.specs.PiecesOf.{pieces_of};
+ghost use Rattle.ht_texts.specs.Reports.{budget_pieces, circuit_sizes, fault_sizes, head_line};
 
 use crate::class_counts::count_classes;
-use crate::number::{push_counted, push_number};
+use crate::piece::{Piece, push_pieces};
 use ht_faults::Classes;
 use ht_net::Circuit;
 use std::alloc::{AllocError, Global};
@@ -28,32 +30,39 @@ pub fn write_head(
         (λ line. line.items ≡ with_lf (head_line circuit.now classes.now budget)) }
 {
     let mut line = Vec::new(alloc);
-    push_circuit_sizes(&mut line, circuit)?;
-    push_counted(&mut line, b" faults ", classes.len())?;
-    push_counted(&mut line, b" classes ", count_classes(classes))?;
+    push_pieces(&mut line, &sizes_of(circuit, classes))?;
     push_budget(&mut line, budget)?;
     line.extend_from_slice(b"\n")?;
     Ok(line)
 }
 
-// Appends the sizes of the circuit.
-fn push_circuit_sizes(text: &mut Vec<u8>, circuit: &Circuit) -> Result<(), AllocError>
-    ensures { OnOk result (text.new.items ≡ text.old.items ++ circuit_sizes circuit.now) }
+// The sizes of the circuit, of its fault list and of the list's classes.
+pub fn sizes_of(circuit: &Circuit, classes: &Classes) -> [Piece<'static>; 12]
+    requires { AreClasses circuit.now classes.now }
+    ensures { pieces_of result ≡ circuit_sizes circuit.now ++ fault_sizes circuit.now classes.now }
 {
-    push_counted(text, b"circuit inputs ", circuit.inputs())?;
-    push_counted(text, b" outputs ", circuit.outputs())?;
-    push_counted(text, b" flip-flops ", circuit.dffs())?;
-    push_counted(text, b" gates ", circuit.gates())?;
-    Ok(())
+    [
+        Piece::Word(b"circuit inputs "),
+        Piece::Number(u64::from(circuit.inputs())),
+        Piece::Word(b" outputs "),
+        Piece::Number(u64::from(circuit.outputs())),
+        Piece::Word(b" flip-flops "),
+        Piece::Number(u64::from(circuit.dffs())),
+        Piece::Word(b" gates "),
+        Piece::Number(u64::from(circuit.gates())),
+        Piece::Word(b" faults "),
+        Piece::Number(u64::from(classes.len())),
+        Piece::Word(b" classes "),
+        Piece::Number(u64::from(count_classes(classes))),
+    ]
 }
 
 // Appends the budget, if there is one.
 fn push_budget(text: &mut Vec<u8>, budget: Option<u64>) -> Result<(), AllocError>
-    ensures { OnOk result (text.new.items ≡ text.old.items ++ budget_text budget) }
+    ensures { OnOk result (text.new.items ≡ add_pieces text.old.items (budget_pieces budget)) }
 {
     let Some(budget) = budget else {
         return Ok(());
     };
-    text.extend_from_slice(b" budget ")?;
-    push_number(text, budget)
+    push_pieces(text, &[Piece::Word(b" budget "), Piece::Number(budget)])
 }

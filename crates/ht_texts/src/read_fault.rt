@@ -6,13 +6,16 @@ ghost use Rattle.ht_faults.specs.Sites.{faults_of};
 ghost use Rattle.ht_faults.specs.Classes.{AreClasses};
 ghost use Rattle.ht_texts.specs.declared.total.Sums.{Sums};
 ghost use Rattle.ht_texts.specs.Fronts.{Strips};
-ghost use Rattle.ht_texts.specs.Sites.{IsSite, pin_text, site_text};
-ghost use Rattle.ht_texts.specs.Reports.{fault_text, line_front};
+ghost use Rattle.ht_texts.specs.Pieces.{pieces_text};
+ghost use Rattle.ht_texts.specs.Sites.{IsSite, pin_pieces, site_pieces};
+ghost use Rattle.ht_texts.specs.Reports.{fault_pieces, line_front};
 ghost use Rattle.ht_texts.specs.ReportLines.{FindsItem};
 
 use crate::item::Item;
+use crate::piece::Piece;
 use crate::read_verdict::read_verdict;
-use crate::strip::{strip_number, strip_word};
+use crate::site::pin_of;
+use crate::strip::{strip_pieces, strip_word};
 use crate::vector::character_of;
 use ht_faults::{Classes, FaultList};
 use ht_net::{Circuit, Fault, NetId, Site};
@@ -47,8 +50,11 @@ pub fn read_fault(
 fn is_member(text: &[u8], representative: u32) -> bool
     ensures { IsTrue result ↔ (text.now ≡ codes "as " ++ decimal (representative + 1)) }
 {
-    let rest = strip_word(Some(text), b"as ");
-    let Some(rest) = strip_number(rest, u64::from(representative) + 1) else {
+    let member = [
+        Piece::Word(b"as "),
+        Piece::Number(u64::from(representative) + 1),
+    ];
+    let Some(rest) = strip_pieces(Some(text), &member) else {
         return false;
     };
     rest.is_empty()
@@ -63,10 +69,9 @@ fn strip_fault<'t>(
 ) -> Option<&'t [u8]>
     requires faults { faults.now ≡ faults_of circuit.now }
     requires fault { i < length faults.now }
-    ensures { Strips (line_front circuit.now i) text.entry result }
+    ensures { Strips (pieces_text (line_front circuit.now i)) text.entry result }
 {
-    let rest = strip_number(text, u64::from(i) + 1);
-    let rest = strip_word(rest, b" ");
+    let rest = strip_pieces(text, &[Piece::Number(u64::from(i) + 1), Piece::Word(b" ")]);
     let rest = strip_stuck_line(rest, circuit, faults.get(i));
     strip_word(rest, b" ")
 }
@@ -74,17 +79,17 @@ fn strip_fault<'t>(
 // What follows the site of a fault and the value that it is stuck at.
 fn strip_stuck_line<'t>(text: Option<&'t [u8]>, circuit: &Circuit, fault: Fault) -> Option<&'t [u8]>
     requires { IsSite circuit.now fault.site }
-    ensures { Strips (fault_text circuit.now fault) text.entry result }
+    ensures { Strips (pieces_text (fault_pieces circuit.now fault)) text.entry result }
 {
     let rest = strip_site(text, circuit, fault.site);
-    let rest = strip_word(rest, b" s-a-");
-    strip_word(rest, &[character_of(fault.value)])
+    let value = [character_of(fault.value)];
+    strip_pieces(rest, &[Piece::Word(b" s-a-"), Piece::Word(&value)])
 }
 
 // What follows a site.
 fn strip_site<'t>(text: Option<&'t [u8]>, circuit: &Circuit, site: Site) -> Option<&'t [u8]>
     requires { IsSite circuit.now site }
-    ensures { Strips (site_text circuit.now site) text.entry result }
+    ensures { Strips (pieces_text (site_pieces circuit.now site)) text.entry result }
 {
     match site {
         Site::Stem(net) => strip_word(text, circuit.name(net)),
@@ -103,10 +108,7 @@ fn strip_pin<'t>(
     number: u64,
 ) -> Option<&'t [u8]>
     requires { net.0 < net_count circuit.now }
-    ensures { Strips (pin_text circuit.now net.0 number) text.entry result }
+    ensures { Strips (pieces_text (pin_pieces circuit.now net.0 number)) text.entry result }
 {
-    let rest = strip_word(text, circuit.name(net));
-    let rest = strip_word(rest, b"(");
-    let rest = strip_number(rest, number);
-    strip_word(rest, b")")
+    strip_pieces(text, &pin_of(circuit, net, number))
 }

@@ -1,10 +1,12 @@
 //! The total line of a report, read.
 ghost use Rattle.std.specs.Prelude.{◌≡◌, ◌↔◌, IsTrue};
 ghost use Rattle.ht_texts.specs.Fronts.{Strips};
-ghost use Rattle.ht_texts.specs.Reports.{search_text, some_text, total_line};
+ghost use Rattle.ht_texts.specs.Pieces.{pieces_text};
+ghost use Rattle.ht_texts.specs.Reports.{search_sums, some_pieces, total_line};
 
-use crate::strip::strip_counted;
-use crate::total::Sums;
+use crate::piece::Piece;
+use crate::strip::strip_pieces;
+use crate::total::{Sums, answer_sums, class_sums};
 
 // Whether this is the total line with these sums.
 pub fn is_total(line: &[u8], sums: Sums) -> bool
@@ -20,8 +22,7 @@ pub fn is_total(line: &[u8], sums: Sums) -> bool
 fn strip_total(text: Option<&[u8]>, sums: Sums) -> Option<&[u8]>
     ensures { Strips (total_line sums) text.entry result }
 {
-    let rest = strip_counted(text, b"total ", sums.classes);
-    let rest = strip_counted(rest, b" detected ", sums.detected);
+    let rest = strip_pieces(text, &class_sums(sums));
     if sums.search {
         strip_search(rest, sums)
     } else {
@@ -31,20 +32,19 @@ fn strip_total(text: Option<&[u8]>, sums: Sums) -> Option<&[u8]>
 
 // What follows the sums that only a search counts.
 fn strip_search(text: Option<&[u8]>, sums: Sums) -> Option<&[u8]>
-    ensures { Strips (search_text sums) text.entry result }
+    ensures { Strips (pieces_text (search_sums sums)) text.entry result }
 {
-    let rest = strip_counted(text, b" untestable ", sums.untestable);
-    let rest = strip_counted(rest, b" aborted ", sums.aborted);
+    let rest = strip_pieces(text, &answer_sums(sums));
     let rest = strip_some(rest, b" undetectable ", sums.undetectable);
     strip_some(rest, b" undetected ", sums.undetected)
 }
 
 // What follows a word and how many there are, if there are any.
 fn strip_some<'t>(text: Option<&'t [u8]>, word: &[u8], count: u32) -> Option<&'t [u8]>
-    ensures { Strips (some_text word.now count) text.entry result }
+    ensures { Strips (pieces_text (some_pieces word.now count)) text.entry result }
 {
     if count == 0 {
         return text;
     }
-    strip_counted(text, word, count)
+    strip_pieces(text, &[Piece::Word(word), Piece::Number(u64::from(count))])
 }

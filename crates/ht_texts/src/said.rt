@@ -1,11 +1,12 @@
 //! What a report says of a class of faults.
-ghost use Rattle.std.specs.Prelude.{◌≡◌, ◌++◌, OnOk, IfOk};
+ghost use Rattle.std.specs.Prelude.{◌≡◌, OnOk, IfOk};
 ghost use Rattle.ht_net.specs.Detection.{IsPlace};
-ghost use Rattle.ht_texts.specs.Verdicts.{IsSayable, said_of, saids_of, verdict_text};
+ghost use Rattle.ht_texts.specs.Pieces.{add_pieces};
+ghost use Rattle.ht_texts.specs.Verdicts.{IsSayable, said_of, saids_of, verdict_pieces};
 ghost use Rattle.ht_texts.specs.declared.said.Said.TheVariants.{Detected};
 
-use crate::number::push_number;
-use crate::site::push_output;
+use crate::piece::{Piece, push_pieces};
+use crate::site::output_name;
 use ht_net::{Circuit, Place};
 use std::alloc::{AllocError, Global};
 
@@ -51,7 +52,8 @@ pub fn saids_of(alloc: Global, places: &[Option<Place>]) -> Result<Vec<Said>, Al
 // Appends a verdict.
 pub fn push_verdict(text: &mut Vec<u8>, circuit: &Circuit, said: Said) -> Result<(), AllocError>
     requires { IsSayable circuit.now said }
-    ensures { OnOk result (text.new.items ≡ text.old.items ++ verdict_text circuit.now said) }
+    ensures { OnOk result
+        (text.new.items ≡ add_pieces text.old.items (verdict_pieces circuit.now said)) }
 {
     match said {
         Said::Detected(place) => push_detection(text, circuit, place),
@@ -66,10 +68,15 @@ pub fn push_verdict(text: &mut Vec<u8>, circuit: &Circuit, said: Said) -> Result
 fn push_detection(text: &mut Vec<u8>, circuit: &Circuit, place: Place) -> Result<(), AllocError>
     requires { IsPlace circuit.now place }
     ensures { OnOk result
-        (text.new.items ≡ text.old.items ++ verdict_text circuit.now (Detected place)) }
+        (text.new.items ≡ add_pieces text.old.items (verdict_pieces circuit.now (Detected place))) }
 {
-    text.extend_from_slice(b"detected ")?;
-    push_number(text, place.vector + 1)?;
-    text.extend_from_slice(b" ")?;
-    push_output(text, circuit, place.output)
+    push_pieces(
+        text,
+        &[
+            Piece::Word(b"detected "),
+            Piece::Number(place.vector + 1),
+            Piece::Word(b" "),
+            Piece::Name(output_name(circuit, place.output)),
+        ],
+    )
 }

@@ -1,8 +1,10 @@
-//! Words and numbers at the front of a text, taken off one after the other. Where one isn't there, no rest is left.
-ghost use Rattle.std.specs.Prelude.{◌++◌};
+//! Words, numbers and pieces at the front of a text, taken off one after the other. Where one isn't there, no rest is left.
 ghost use Rattle.std.specs.Fmt.{decimal};
 ghost use Rattle.ht_texts.specs.Fronts.{Strips};
+ghost use Rattle.ht_texts.specs.Pieces.{pieces_text};
+ghost use Rattle.ht_texts.specs.PiecesOf.{pieces_of};
 
+use crate::piece::Piece;
 use itoa::Buffer;
 
 // What follows a word.
@@ -23,10 +25,16 @@ pub fn strip_number(text: Option<&[u8]>, number: u64) -> Option<&[u8]>
     strip_word(text, buffer.format(number).as_bytes())
 }
 
-// What follows a word and a number.
-pub fn strip_counted<'t>(text: Option<&'t [u8]>, word: &[u8], number: u32) -> Option<&'t [u8]>
-    ensures { Strips (word.now ++ decimal number) text.entry result }
+// What follows pieces.
+pub fn strip_pieces<'t>(text: Option<&'t [u8]>, pieces: &[Piece<'_>]) -> Option<&'t [u8]>
+    ensures { Strips (pieces_text (pieces_of pieces.now)) text.entry result }
 {
-    let rest = strip_word(text, word);
-    strip_number(rest, u64::from(number))
+    let mut rest = text;
+    for piece in pieces {
+        rest = match piece {
+            Piece::Word(bytes) | Piece::Name(bytes) => strip_word(rest, bytes),
+            Piece::Number(number) => strip_number(rest, *number),
+        };
+    }
+    rest
 }

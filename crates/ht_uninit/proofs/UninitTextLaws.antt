@@ -57,22 +57,6 @@ removal_more removed i r before after whole l is left more =
     ∙ (ap (λ (x : Removed). before ++ (removal_text x ++ rest)) is
     ∙ (ap (λ (rs : List Removed). before ++ flat_map removal_text rs) (sym (drop_more removed i r l)) ∙ left)))
 
--- ---- pieces that are appended one after the other
-
-pub head_appended : (t u v w x y z a i b j d k e m f n lf : List ℕ) → u ≡ t ++ a ++ i → v ≡ u ++ b ++ j
-    → w ≡ v ++ d ++ k → x ≡ w ++ e ++ m → y ≡ x ++ f ++ n → z ≡ y ++ lf
-    → z ≡ t ++ (a ++ i ++ b ++ j ++ d ++ k ++ e ++ m ++ f ++ n ++ lf)
-head_appended t u v w x y z a i b j d k e m f n lf to_u to_v to_w to_x to_y to_z =
-    to_z
-    ∙ ap (λ l. l ++ lf) (to_y ∙ ap (λ l. l ++ f ++ n) (to_x ∙ ap (λ l. l ++ e ++ m) (to_w
-    ∙ ap (λ l. l ++ d ++ k) (to_v ∙ ap (λ l. l ++ b ++ j) to_u))))
-    ∙ simp append_assoc
-
-pub total_appended : (t u v w x a i b j d k lf : List ℕ) → u ≡ t ++ a ++ i → v ≡ u ++ b ++ j → w ≡ v ++ d ++ k
-    → x ≡ w ++ lf → x ≡ t ++ (a ++ i ++ b ++ j ++ d ++ k ++ lf)
-total_appended t u v w x a i b j d k lf to_u to_v to_w to_x =
-    to_x ∙ ap (λ l. l ++ lf) (to_w ∙ ap (λ l. l ++ d ++ k) (to_v ∙ ap (λ l. l ++ b ++ j) to_u)) ∙ simp append_assoc
-
 pub body_appended : (c : Netlist) (representatives : List ℕ) (budget : ℕ) (r : UninitState)
     → (b0 b1 b2 b3 b4 b5 : List ℕ) (dffs outputs faults classes : ℕ) → b0 ≡ []
     → b1 ≡ b0 ++ with_lf (uninit_head dffs outputs faults classes budget) → b2 ≡ b1 ++ flat_map removal_text r.removed

@@ -1,8 +1,7 @@
 -- The text of a record: a head line, the removals in their order, the walks of the flip-flops that are held to the end,
 -- the outputs, a line for each fault, and the total. Lines that are defined by themselves are without their LF. The
 -- record is of the whole fault list, so that the mark of a fault has the fault's number.
-use Rattle.std.specs.Prelude.{◌-◌, ℕ, List, [], ◌++◌, if◌then◌else◌, Bool, true, false, length, get_or, map, flat_map, Option, Some, None, count_by, codes}
-use Rattle.std.specs.Fmt.{decimal}
+use Rattle.std.specs.Prelude.{◌-◌, ℕ, List, [], ◌∷◌, ◌++◌, if◌then◌else◌, Bool, true, false, length, get_or, map, flat_map, Option, Some, None, count_by, codes}
 use Rattle.std.specs.List.{range_with_len}
 use Rattle.ht_tern.specs.declared.tern.Tern.{Tern}
 use Rattle.ht_tern.specs.declared.tern.Tern.TheVariants.{One, Unk, Zero}
@@ -13,6 +12,7 @@ use Rattle.ht_faults.specs.Sites.{faults_of}
 use Rattle.ht_faults.specs.Classes.{class_count, is_representative, own_representatives}
 use Rattle.ht_texts.specs.declared.said.Said.TheVariants.{Undetected}
 use Rattle.ht_texts.specs.Lines.{with_lf, with_lfs}
+use Rattle.ht_texts.specs.Pieces.{Piece, word, number, pieces_text}
 use Rattle.ht_texts.specs.Reports.{fault_line, line_front}
 use Rattle.ht_entries.specs.ProofLines.{numbered_from_1, token_text}
 use Rattle.ht_uninit.specs.declared.record.Out3.{Out3}
@@ -35,11 +35,11 @@ decision_text set = numbered_from_1 (codes "set ") set.var ++ value_text set.val
 
 -- a line of a word and the number, from 1, of what has this index, and below it a line for each token of a walk
 abbrev pub walk_text : List ℕ → ℕ → List Token → List ℕ
-walk_text word index tokens = with_lf (numbered_from_1 word index) ++ with_lfs (map token_text tokens)
+walk_text name index tokens = with_lf (numbered_from_1 name index) ++ with_lfs (map token_text tokens)
 
 -- the same with a line for each decision
 abbrev pub decisions_text : List ℕ → ℕ → List Assign3 → List ℕ
-decisions_text word index sets = with_lf (numbered_from_1 word index) ++ with_lfs (map decision_text sets)
+decisions_text name index sets = with_lf (numbered_from_1 name index) ++ with_lfs (map decision_text sets)
 
 -- ---- flip-flops and outputs
 
@@ -74,14 +74,14 @@ searched_texts outs count = flat_map (λ o. searched_text o (get_or outs o no_ou
 -- ---- faults
 
 -- whether a representative is hidden
-abbrev pub hidden_text : Bool → List ℕ
-hidden_text true = codes "hidden"
-hidden_text false = codes "possible"
+abbrev pub hidden_pieces : Bool → List Piece
+hidden_pieces true = word (codes "hidden") ∷ []
+hidden_pieces false = word (codes "possible") ∷ []
 
 -- a representative, and whether it is hidden; another fault has the line that it has in a report
 abbrev pub hidden_line : Netlist → List ℕ → ℕ → Bool → List ℕ
 hidden_line c representatives i hidden =
-    if is_representative representatives i then line_front c i ++ hidden_text hidden
+    if is_representative representatives i then pieces_text (line_front c i ++ hidden_pieces hidden)
     else fault_line c representatives i Undetected
 
 -- the first faults
@@ -94,8 +94,9 @@ hidden_texts c representatives hidden count =
 -- how many flip-flops, outputs, faults and classes there are, and the budget
 abbrev pub uninit_head : ℕ → ℕ → ℕ → ℕ → ℕ → List ℕ
 uninit_head dffs outputs faults classes budget =
-    codes "uninit flip-flops " ++ decimal dffs ++ codes " outputs " ++ decimal outputs
-    ++ codes " faults " ++ decimal faults ++ codes " classes " ++ decimal classes ++ codes " budget " ++ decimal budget
+    pieces_text (word (codes "uninit flip-flops ") ∷ number dffs ∷ word (codes " outputs ") ∷ number outputs
+    ∷ word (codes " faults ") ∷ number faults ∷ word (codes " classes ") ∷ number classes
+    ∷ word (codes " budget ") ∷ number budget ∷ [])
 
 -- the text without its last line
 abbrev pub uninit_body : Netlist → List ℕ → ℕ → UninitState → List ℕ
@@ -108,7 +109,8 @@ uninit_body c representatives budget r =
 -- so many classes, hidden representatives, and flip-flops that are held to the end
 abbrev pub total_counts : ℕ → ℕ → ℕ → List ℕ
 total_counts classes hidden held =
-    codes "total " ++ decimal classes ++ codes " hidden " ++ decimal hidden ++ codes " held " ++ decimal held
+    pieces_text (word (codes "total ") ∷ number classes ∷ word (codes " hidden ") ∷ number hidden
+    ∷ word (codes " held ") ∷ number held ∷ [])
 
 -- the last line
 abbrev pub uninit_total : Netlist → List ℕ → UninitState → List ℕ

@@ -1,36 +1,28 @@
 //! The lines of decisions, walks and faults in the text of a record.
 ghost use Rattle.std.specs.Prelude.{◌≡◌, ◌<◌, ◌++◌, length, OnOk};
-ghost use Rattle.std.specs.Fmt.{decimal};
 ghost use Rattle.ht_faults.specs.Sites.{faults_of};
-ghost use Rattle.ht_faults.specs.Classes.{AreClasses, is_representative};
+ghost use Rattle.ht_faults.specs.Classes.{AreClasses};
 ghost use Rattle.ht_texts.specs.Lines.{with_lf};
-ghost use Rattle.ht_uninit.specs.UninitTexts.{decision_text, decisions_text, hidden_line, removal_text, searched_text, walk_text};
+ghost use Rattle.ht_texts.specs.Pieces.{add_pieces};
+ghost use Rattle.ht_uninit.specs.UninitTexts.{decision_text, decisions_text, hidden_line, hidden_pieces, removal_text, searched_text, walk_text};
 
 use crate::record::{Out3, Removed};
 use ht_entries::{push_indexed, push_token};
 use ht_faults::{Classes, FaultList};
 use ht_net::Circuit;
 use ht_tern::Tern;
-use ht_texts::{Said, push_number, write_fault};
+use ht_texts::{Piece, Said, push_fault, push_line_front, push_pieces};
 use ht_tree::{Assign3, Token};
-use std::alloc::{AllocError, Global};
-
-// what ends the line of an undetected representative
-const UNDETECTED: &[u8] = b"undetected\n";
-
-// Appends a word and, after it, a number.
-pub fn push_counted(text: &mut Vec<u8>, word: &[u8], number: u64) -> Result<(), AllocError>
-    ensures { OnOk result (text.new.items ≡ text.old.items ++ word.now ++ decimal number) }
-{
-    text.extend_from_slice(word)?;
-    push_number(text, number)
-}
+use std::alloc::AllocError;
 
 // Appends the line of a decision.
 fn push_decision(text: &mut Vec<u8>, set: Assign3) -> Result<(), AllocError>
     ensures { OnOk result (text.new.items ≡ text.old.items ++ with_lf (decision_text set)) }
 {
-    push_counted(text, b"set ", u64::from(set.var) + 1)?;
+    push_pieces(
+        text,
+        &[Piece::Word(b"set "), Piece::Number(u64::from(set.var) + 1)],
+    )?;
     match set.value {
         Tern::Zero => text.extend_from_slice(b" 0\n"),
         Tern::One => text.extend_from_slice(b" 1\n"),
@@ -95,7 +87,6 @@ pub fn push_searched(text: &mut Vec<u8>, o: u32, out: &Out3) -> Result<(), Alloc
 
 // Appends the line of fault i.
 pub fn push_hidden(
-    alloc: Global,
     text: &mut Vec<u8>,
     circuit: &Circuit,
     faults: &FaultList,
@@ -109,15 +100,21 @@ pub fn push_hidden(
     ensures { OnOk result (text.new.items
         ≡ text.old.items ++ with_lf (hidden_line circuit.now classes.now i hidden)) }
 {
-    let line = write_fault(alloc, circuit, faults, classes, i, Said::Undetected)?;
     if classes.of(i) != i {
-        text.extend_from_slice(&line)?;
-        return Ok(());
+        return push_fault(text, circuit, faults, classes, i, Said::Undetected);
     }
-    // the number and the fault stand in front of the verdict
-    text.extend_from_slice(&line[..line.len() - UNDETECTED.len()])?;
+    push_line_front(text, circuit, faults, i)?;
+    push_mark(text, hidden)?;
+    text.extend_from_slice(b"\n")?;
+    Ok(())
+}
+
+// Appends whether a representative is hidden.
+fn push_mark(text: &mut Vec<u8>, hidden: bool) -> Result<(), AllocError>
+    ensures { OnOk result (text.new.items ≡ add_pieces text.old.items (hidden_pieces hidden)) }
+{
     match hidden {
-        true => text.extend_from_slice(b"hidden\n"),
-        false => text.extend_from_slice(b"possible\n"),
+        true => text.extend_from_slice(b"hidden"),
+        false => text.extend_from_slice(b"possible"),
     }
 }

@@ -1,15 +1,16 @@
 //! The text of a record.
 ghost use Rattle.std.specs.Prelude.{◌≡◌, ◌<◌, ◌-◌, ◌++◌, None, false, flat_map, length, count_by, get_or, IfOk, OnOk};
 ghost use Rattle.ht_faults.specs.Sites.{faults_of};
-ghost use Rattle.ht_faults.specs.Classes.{AreClasses, class_count, own_representatives};
+ghost use Rattle.ht_faults.specs.Classes.{AreClasses, own_representatives};
 ghost use Rattle.ht_texts.specs.Lines.{with_lf};
 ghost use Rattle.ht_uninit.specs.UninitTexts.{held_text, held_texts, hidden_texts, removal_text, searched_texts};
-ghost use Rattle.ht_uninit.specs.UninitTexts.{total_counts, uninit_body, uninit_head, uninit_total};
+ghost use Rattle.ht_uninit.specs.UninitTexts.{uninit_body, uninit_head, uninit_total};
 
-use crate::record_lines::{push_counted, push_hidden, push_removal, push_searched, push_walk};
+use crate::record_lines::{push_hidden, push_removal, push_searched, push_walk};
 use crate::uninit_record::UninitRecord;
 use ht_faults::{Classes, FaultList};
 use ht_net::Circuit;
+use ht_texts::{Piece, count_classes, push_line};
 use std::alloc::{AllocError, Global};
 
 /// The text of a record without its total line: the head line
@@ -44,7 +45,7 @@ pub fn write_uninit_body(
     push_removals(&mut body, answer)?;
     push_held(&mut body, dffs, answer)?;
     push_outputs(&mut body, outputs, answer)?;
-    push_faults(alloc, &mut body, circuit, faults, classes, answer)?;
+    push_faults(&mut body, circuit, faults, classes, answer)?;
     Ok(body)
 }
 
@@ -64,26 +65,18 @@ pub fn write_uninit_total(
         (λ line. line.items ≡ with_lf (uninit_total circuit.now classes.now answer.now)) }
 {
     let mut line = Vec::new(alloc);
-    let held = count_held(circuit, answer);
-    push_counts(
+    push_line(
         &mut line,
-        count_classes(classes),
-        count_hidden(classes, answer),
-        held,
+        &[
+            Piece::Word(b"total "),
+            Piece::Number(u64::from(count_classes(classes))),
+            Piece::Word(b" hidden "),
+            Piece::Number(count_hidden(classes, answer)),
+            Piece::Word(b" held "),
+            Piece::Number(count_held(circuit, answer)),
+        ],
     )?;
     Ok(line)
-}
-
-// Appends the total line.
-fn push_counts(text: &mut Vec<u8>, classes: u64, hidden: u64, held: u64) -> Result<(), AllocError>
-    ensures { OnOk result
-        (text.new.items ≡ text.old.items ++ with_lf (total_counts classes hidden held)) }
-{
-    push_counted(text, b"total ", classes)?;
-    push_counted(text, b" hidden ", hidden)?;
-    push_counted(text, b" held ", held)?;
-    text.extend_from_slice(b"\n")?;
-    Ok(())
 }
 
 // How many flip-flops are held to the end.
@@ -96,13 +89,6 @@ fn count_held(circuit: &Circuit, answer: &UninitRecord) -> u64
         return dffs - removed;
     }
     0
-}
-
-// How many classes there are.
-fn count_classes(classes: &Classes) -> u64
-    ensures { result ≡ class_count classes.now }
-{
-    classes.representatives().len() as u64
 }
 
 // Of how many classes the representative is hidden.
@@ -126,19 +112,27 @@ fn push_head(
     dffs: u32,
     outputs: u32,
     faults: u32,
-    classes: u64,
+    classes: u32,
     budget: u64,
 ) -> Result<(), AllocError>
     ensures { OnOk result (text.new.items
         ≡ text.old.items ++ with_lf (uninit_head dffs outputs faults classes budget)) }
 {
-    push_counted(text, b"uninit flip-flops ", dffs as u64)?;
-    push_counted(text, b" outputs ", outputs as u64)?;
-    push_counted(text, b" faults ", faults as u64)?;
-    push_counted(text, b" classes ", classes)?;
-    push_counted(text, b" budget ", budget)?;
-    text.extend_from_slice(b"\n")?;
-    Ok(())
+    push_line(
+        text,
+        &[
+            Piece::Word(b"uninit flip-flops "),
+            Piece::Number(u64::from(dffs)),
+            Piece::Word(b" outputs "),
+            Piece::Number(u64::from(outputs)),
+            Piece::Word(b" faults "),
+            Piece::Number(u64::from(faults)),
+            Piece::Word(b" classes "),
+            Piece::Number(u64::from(classes)),
+            Piece::Word(b" budget "),
+            Piece::Number(budget),
+        ],
+    )
 }
 
 // Appends the removals, in their order.
@@ -193,7 +187,6 @@ fn push_outputs(text: &mut Vec<u8>, outputs: u32, answer: &UninitRecord) -> Resu
 
 // Appends the faults.
 fn push_faults(
-    alloc: Global,
     text: &mut Vec<u8>,
     circuit: &Circuit,
     faults: &FaultList,
@@ -208,7 +201,7 @@ fn push_faults(
         ++ hidden_texts circuit.now classes.now answer.now.hidden (length faults.now)) }
 {
     for i in 0..faults.len() {
-        push_hidden(alloc, text, circuit, faults, classes, i, answer.hidden(i))?;
+        push_hidden(text, circuit, faults, classes, i, answer.hidden(i))?;
     }
     Ok(())
 }

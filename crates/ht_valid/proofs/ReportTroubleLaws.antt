@@ -11,15 +11,17 @@ use Rattle.ht_texts.specs.declared.item.Item.{Item}
 use Rattle.ht_texts.specs.declared.item.Item.TheVariants.{Head, Verdict, Member, Total}
 use Rattle.ht_texts.specs.declared.said.Said.{Said}
 use Rattle.ht_texts.specs.declared.said.Said.TheVariants.{Undetected}
+use Rattle.ht_texts.specs.Pieces.{pieces_text}
 use Rattle.ht_texts.specs.Reports.{fault_line, fault_lines, line_front, report_sums, total_line}
 use Rattle.ht_texts.specs.ReportReading.{ReportReading, before_report, in_report, after_report, ReportReadsTo, last_item}
 use Rattle.ht_texts.specs.SearchReports.{IsReportText, IsSearchReport}
 use Rattle.ht_texts.specs.Verdicts.{said_at, verdict_text}
+use Rattle.ht_texts.specs.WrongLines.{IsFirst}
 use Rattle.ht_texts.proofs.ReadingLaws.{length-in_report}
 use Rattle.ht_texts.proofs.ReportTextLaws.{report_is_not_malformed}
 use Rattle.ht_texts.proofs.SaidLaws.{get_or-fault_lines, length-fault_lines, line_of_representative}
 use Rattle.ht_texts.proofs.VerdictLaws.{one_verdict}
-use Rattle.ht_valid.specs.FirstTrouble.{ContradictsTests, IsFirst, IsReportTrouble}
+use Rattle.ht_valid.specs.FirstTrouble.{ContradictsTests, IsReportTrouble}
 use Rattle.ht_valid.specs.ValidFiles.{AgreesWithTests, IsOwn}
 
 -- ---- what a line says of a fault
@@ -81,7 +83,7 @@ module _ (c : Netlist) (representatives : List ℕ) (lines : List (List ℕ)) (n
       ∙ get_or-fault_lines c representatives s (length s) k below)) in
       one_verdict c (said_at s k) (said_at saids k) circuit (read.readable.saids_are.sayable k below own)
       (report.search.saids_are.sayable k inside own)
-      (append_cancel_left (line_front c k) (verdict_text c (said_at s k)) (verdict_text c (said_at saids k))
+      (append_cancel_left (pieces_text (line_front c k)) (verdict_text c (said_at s k)) (verdict_text c (said_at saids k))
       (sym (line_of_representative c representatives k (said_at s k) own)
       ∙ (sym here ∙ (line_in_report k inside ∙ line_of_representative c representatives k (said_at saids k) own))))
 

@@ -1,17 +1,18 @@
 -- Valid files have no first trouble, and files have at most one; so it is where no report is there.
 use Rattle.std.proofs.Common.{◌≡◌, ◌∙◌, ◌-◌, ℕ, Bool, List, [], ◌∷◌, ◌++◌, Option, Some, None, inl, inr, take, length, length-append, refl, sym, ap, subst, arith}
 use Rattle.std.specs.List.{All}
-use Rattle.std.proofs.lemmas.Bool.{cases_lt}
 use Rattle.std.proofs.lemmas.List.{same_from_push}
 use Rattle.std.proofs.lemmas.List.Elements.{All-cons, All-head, All-nil, All-tail}
 use Rattle.ht_ports.specs.LineRule.{lines_of}
 use Rattle.ht_tern.specs.declared.tern.Tern.{Tern}
 use Rattle.ht_net.specs.Netlist.{IsCircuit, Netlist}
-use Rattle.ht_texts.specs.Tests.{IsTestText, line_at}
+use Rattle.ht_texts.specs.Tests.{IsTestText, IsWrongLine, line_at}
 use Rattle.ht_texts.specs.SearchReports.{IsReportText}
 use Rattle.ht_texts.specs.Verdicts.{said_at}
+use Rattle.ht_texts.specs.WrongLines.{IsFirst}
 use Rattle.ht_texts.proofs.ReportFrontLaws.{one_report}
-use Rattle.ht_texts.proofs.TestLaws.{never_both, one_list, one_line as one_malformed_test}
+use Rattle.ht_texts.proofs.TestLaws.{never_both, one_list}
+use Rattle.ht_texts.proofs.WrongLineLaws.{one_first as one_least}
 use Rattle.ht_entries.specs.declared.numbered.Numbered.{Numbered}
 use Rattle.ht_entries.specs.EntryTexts.{IsProofText}
 use Rattle.ht_entries.specs.MalformedProofs.{IsWrongProofLine}
@@ -19,7 +20,7 @@ use Rattle.ht_entries.specs.ProofReading.{ProofReading, EndsEntry, closed_of}
 use Rattle.ht_entries.proofs.MalformedLaws.{one_place}
 use Rattle.ht_valid.specs.declared.trouble.Trouble.{Trouble}
 use Rattle.ht_valid.specs.declared.trouble.Trouble.TheVariants.{Tests, Report, Proofs, Fault}
-use Rattle.ht_valid.specs.FirstTrouble.{AreReadTo, EndsWithLine, EndsWrongEntry, IsEvidence, IsFaultTrouble, IsFirst, IsFirstFault, IsFirstProofLine, IsFirstTrouble, IsFirstUnjustified, IsMissing, IsProofTrouble, IsReportTrouble, IsTroubleAt, LeavesMissing}
+use Rattle.ht_valid.specs.FirstTrouble.{AreReadTo, EndsWithLine, EndsWrongEntry, IsEvidence, IsFaultTrouble, IsFirstFault, IsFirstProofLine, IsFirstTrouble, IsFirstUnjustified, IsMissing, IsProofTrouble, IsReportTrouble, IsTroubleAt, LeavesMissing}
 use Rattle.ht_valid.specs.ValidFiles.{AgreesWithTests, AreValid, Backs, Content, IsBacking, IsJustified, IsOwn, NeedsEntry}
 use Rattle.ht_valid.proofs.ProofTroubleLaws.{backings_are_evidence, none_ends_unproved, nothing_wrong, text_is_not_malformed}
 use Rattle.ht_valid.proofs.ReportTroubleLaws.{report_is_right}
@@ -27,13 +28,8 @@ use Rattle.ht_valid.proofs.ReportTroubleLaws.{report_is_right}
 -- one number is the least
 one_first : (P Q : ℕ → Type 0) (n m : ℕ) → ((k : ℕ) → P k → Q k) → ((k : ℕ) → Q k → P k) → IsFirst P n → IsFirst Q m
     → n ≡ m
-one_first P Q n m on back a b = elim (cases_lt n m) [
-  | inl less ↦ absurd (b.first n less (on n a.wrong))
-  | inr upto ↦ elim (cases_lt m n) [
-    | inl more ↦ absurd (a.first m more (back m b.wrong))
-    | inr down ↦ omega (arith, upto, down)
-  ]
-]
+one_first P Q n m to back a b =
+    one_least P n m a (record { wrong = back m b.wrong; first = λ k less wrong. b.first k less (to k wrong) })
 
 -- two troubles with an entry that come at the same lines come first at the same one
 module _ (A B : List (List ℕ) → List ℕ → ℕ → Type 0)
@@ -278,7 +274,7 @@ module _ (c : Netlist) (representatives : List ℕ) (start : List Tern) (tests r
 
   pub one_trouble : (t u : Trouble) → IsFirstTrouble c representatives start tests report proofs t
       → IsFirstTrouble c representatives start tests report proofs u → t ≡ u
-  one_trouble (Tests n) (Tests m) a b = ap Tests (one_malformed_test c tests n m a b)
+  one_trouble (Tests n) (Tests m) a b = ap Tests (one_least (IsWrongLine c tests) n m a b)
   one_trouble (Tests n) (Report m) a b = absurd (never_both c tests b.0 n b.1 a)
   one_trouble (Tests n) (Proofs m) a b = absurd (never_both c tests b.0.list n b.1.vectors a)
   one_trouble (Tests n) (Fault m) a b = absurd (never_both c tests b.0.list n b.1.vectors a)
@@ -331,7 +327,7 @@ module _ (c : Netlist) (representatives : List ℕ) (start : List Tern) (budget 
 
   pub one_unjustified : (t u : Trouble) → IsFirstUnjustified c representatives start budget tests proofs t
       → IsFirstUnjustified c representatives start budget tests proofs u → t ≡ u
-  one_unjustified (Tests n) (Tests m) a b = ap Tests (one_malformed_test c tests n m a b)
+  one_unjustified (Tests n) (Tests m) a b = ap Tests (one_least (IsWrongLine c tests) n m a b)
   one_unjustified (Tests n) (Report m) a b = absurd b
   one_unjustified (Tests n) (Proofs m) a b = absurd (never_both c tests b.0 n b.1 a)
   one_unjustified (Tests n) (Fault m) a b = absurd (never_both c tests b.0 n b.1 a)

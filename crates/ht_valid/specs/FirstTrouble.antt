@@ -11,6 +11,7 @@ use Rattle.ht_tree.specs.Entries.{AllowsEntry, Passes}
 use Rattle.ht_texts.specs.declared.item.Item.TheVariants.{Verdict}
 use Rattle.ht_texts.specs.declared.said.Said.{Said}
 use Rattle.ht_texts.specs.Tests.{IsTestText, IsMalformedTest, line_at}
+use Rattle.ht_texts.specs.WrongLines.{IsFirst}
 use Rattle.ht_texts.specs.Verdicts.{said_at}
 use Rattle.ht_texts.specs.SearchReports.{IsReportText, IsWrongReportLine}
 use Rattle.ht_texts.specs.ReportReading.{ReportReading, ReportReadsTo, last_item}
@@ -20,11 +21,6 @@ use Rattle.ht_entries.specs.MalformedProofs.{IsWrongProofLine}
 use Rattle.ht_valid.specs.declared.trouble.Trouble.{Trouble}
 use Rattle.ht_valid.specs.declared.trouble.Trouble.TheVariants.{Tests, Report, Proofs, Fault}
 use Rattle.ht_valid.specs.ValidFiles.{AgreesWithTests, Content, HasEntry, IsBacking, IsOwn, NeedsEntry}
-
--- the least number at which something is wrong
-pub record IsFirst (IsWrong : ℕ → Type 0) (n : ℕ) : Type 0 where
-  pub wrong : IsWrong n
-  pub first : (m : ℕ) → m < n → ¬ IsWrong m
 
 -- ---- the report
 

@@ -14,6 +14,9 @@ use Rattle.ht_tree.specs.declared.token.Assign3.{Assign3}
 use Rattle.ht_tree.specs.Windows.{SearchWindow, IsWindow, cell_at, latches_at, pair_set_rules}
 use Rattle.ht_window.specs.Standing.{Standing}
 use Rattle.ht_window.specs.Cells.{cell_index, cell_count, blank, value_over, AreCells, var_frame, var_net}
+use Rattle.ht_relevant.specs.Near.{RelevantState}
+use Rattle.ht_relevant.specs.Relevant.{IsClosedBack}
+use Rattle.ht_window.specs.Matters.{is_relevant}
 use Rattle.ht_window.specs.Holding.{HeldState, item_agrees, KeepsHeld}
 use Rattle.ht_window.proofs.AgreeLaws.{settled_cells}
 use Rattle.ht_window.proofs.DecideLaws.{decided_agrees, decided_inputs}
@@ -31,12 +34,14 @@ settled_all s t w a b plan circuit frames quiet settled none y known =
 -- a is before the decision, p has the decision, and q also the set of its net
 module _ (a p q : HeldState) (d : Assign3) (valid : IsWindow a.standing.window)
     (count : length a.cells.values ≡ cell_count a.standing.window)
-    (are : AreCells a.standing.window a.standing.path a.cells.values)
+    (closed : IsClosedBack a.standing.window.circuit a.standing.window.frames
+    (is_relevant a.relevant))
+    (are : AreCells a.standing.window (is_relevant a.relevant) a.standing.path a.cells.values)
     (known : var_net a.standing.window d.var < net_count a.standing.window.circuit)
-    (pw : p.standing.window ≡ a.standing.window) (pc : p.cells ≡ a.cells)
+    (pw : p.standing.window ≡ a.standing.window) (pr : p.relevant ≡ a.relevant) (pc : p.cells ≡ a.cells)
     (pp : p.standing.path ≡ a.standing.path ++ d ∷ [])
     (f x : ℕ) (fe : f ≡ var_frame p.standing.window d.var) (xe : x ≡ var_net p.standing.window d.var)
-    (qs : q.standing ≡ p.standing)
+    (qs : q.standing ≡ p.standing) (qr : q.relevant ≡ p.relevant)
     (qv : q.cells.values ≡ set p.cells.values (cell_index p.standing.window f x)
     (value_over p.standing.window p.standing.path p.cells.values f x)) where
   frame_is : f ≡ var_frame a.standing.window d.var
@@ -59,23 +64,33 @@ module _ (a p q : HeldState) (d : Assign3) (valid : IsWindow a.standing.window)
   now = qv ∙ (λ i. set (pc i).values (cell_index (pw i) (frame_is i) (net_is i))
       (value_over (pw i) (pp i) (pc i).values (frame_is i) (net_is i)))
 
+  marks : q.relevant ≡ a.relevant
+  marks = qr ∙ pr
+
   pub follow_agrees : (y : ℕ) → y < item_count a.standing.window.circuit a.standing.window.frames
       → ¬ IsReader a.standing.window.circuit a.standing.window.frames f x y → item_agrees q y
-  follow_agrees y ys free = decided_agrees a.standing.window valid a.standing.path d a.cells.values count known are q
-      same more now y ys
+  follow_agrees y ys free = decided_agrees a.standing.window valid a.relevant closed a.standing.path d a.cells.values count
+      known are q same marks more now y ys
       (λ r. free (subst (λ (n : ℕ). IsReader a.standing.window.circuit a.standing.window.frames n x y) (sym frame_is)
       (subst (λ (n : ℕ). IsReader a.standing.window.circuit a.standing.window.frames
       (var_frame a.standing.window d.var) n y) (sym net_is) r)))
 
   pub follow_cells : (r : HeldState) → KeepsHeld q r
       → ((y : ℕ) → y < item_count a.standing.window.circuit a.standing.window.frames → item_agrees r y)
-      → AreCells a.standing.window r.standing.path r.cells.values
+      → AreCells a.standing.window (is_relevant a.relevant) r.standing.path r.cells.values
   follow_cells r kept agree =
-      let c = settled_cells q r (subst IsWindow (sym same) valid) kept
-      (decided_inputs a.standing.window valid a.standing.path d a.cells.values count known are q same more now)
+      let here = subst (λ (v : SearchWindow). IsClosedBack v.circuit v.frames (is_relevant q.relevant)) (sym same)
+      (subst (λ (o : Option RelevantState). IsClosedBack a.standing.window.circuit a.standing.window.frames
+      (is_relevant o)) (sym marks) closed) in
+      let c = settled_cells q r (subst IsWindow (sym same) valid) here kept
+      (decided_inputs a.standing.window valid a.relevant closed a.standing.path d a.cells.values count known are q same
+      marks more now)
       (subst (λ (w : SearchWindow). (y : ℕ) → y < item_count w.circuit w.frames → item_agrees r y) (sym same) agree) in
-      subst (λ (w : SearchWindow). AreCells w r.standing.path r.cells.values) same
-      (subst (λ (s : Standing). AreCells q.standing.window s.path r.cells.values) (sym kept.standing) c)
+      subst (λ (w : SearchWindow). AreCells w (is_relevant a.relevant) r.standing.path r.cells.values) same
+      (subst (λ (o : Option RelevantState). AreCells q.standing.window (is_relevant o)
+      r.standing.path r.cells.values) marks
+      (subst (λ (s : Standing). AreCells q.standing.window (is_relevant q.relevant) s.path
+      r.cells.values) (sym kept.standing) c))
 
 -- the next state of a latch after the last frame
 pub last_latch : (w : SearchWindow) (path : List Assign3) (g j : ℕ) (result cell : List Pair) (fault : Option Fault)

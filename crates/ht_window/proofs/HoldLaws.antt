@@ -1,16 +1,14 @@
 -- Which nets hold what their drivers give them, as cells change.
-use Rattle.std.proofs.Common.{◌≡◌, ◌≢◌, ◌<◌, ◌≤◌, ◌+◌, ◌-◌, ◌⊎◌, inl, inr, ℕ, suc, zero, List, length, get_or, set, refl, sym, ◌∙◌, ap, arith, subst}
-use Rattle.std.proofs.lemmas.Bool.Decides.{eqb_tells}
+use Rattle.std.proofs.Common.{◌≡◌, ◌≢◌, ◌<◌, ◌≤◌, ◌+◌, ◌-◌, ◌⊎◌, inl, inr, ℕ, suc, zero, List, Bool, true, length, get_or, set, refl, sym, ◌∙◌, ap, arith, subst}
 use Rattle.ht_pairs.specs.Pairs.{Pair}
 use Rattle.ht_net.specs.Netlist.{net_count, first_gate_net, arg_at, no_net}
-use Rattle.ht_net.specs.Frame.{net_value_over, next_state}
-use Rattle.ht_net.proofs.FrameLaws.{IsSettled, frame_settled, settled_is_frame}
-use Rattle.ht_net.proofs.ValueLaws.{taken_same}
-use Rattle.ht_net.proofs.DepthLaws.{circuit_depth}
+use Rattle.ht_net.specs.Frame.{net_value_over}
 use Rattle.ht_events.specs.Items.{item_at, IsReader}
 use Rattle.ht_tree.proofs.PlaceLaws.{taken_at}
 use Rattle.ht_tree.specs.declared.token.Assign3.{Assign3}
-use Rattle.ht_tree.specs.Windows.{SearchWindow, IsWindow, pair_set_rules, frame_inputs, latches_at, cell_at}
+use Rattle.ht_tree.specs.Windows.{SearchWindow, IsWindow, pair_set_rules, frame_inputs}
+use Rattle.ht_relevant.specs.Relevant.{IsClosedBack}
+use Rattle.ht_relevant.proofs.PartWindowLaws.{latches_by, part_cells, part_holds}
 use Rattle.ht_window.specs.Cells.{cell_index, cell_count, env_at, blank, latches_over, value_over, HoldsValue, AreCells}
 use Rattle.ht_window.proofs.PlaceLaws.{written, unwritten, this_or_other}
 use Rattle.ht_window.proofs.ReaderLaws.{over_same, gate_reads, dff_reads, not_self}
@@ -69,50 +67,27 @@ module _ (w : SearchWindow) (valid : IsWindow w) (path : List Assign3) where
     same_holds g y ys same is = subst (λ (h : ℕ). HoldsValue w path (set values (cell_index w f x) v) h y) (sym same.0)
         (subst (λ (z : ℕ). HoldsValue w path (set values (cell_index w f x) v) f z) (sym same.1) (self_holds is))
 
-  latches_settled : (values : List (List Pair)) (f : ℕ) → f ≤ w.frames
-      → ((g : ℕ) → g < f → (x : ℕ) → x < net_count w.circuit → env_at w values g x ≡ cell_at w path g x)
-      → latches_over w path values f ≡ latches_at w path f
-  unfolding latches_over latches_at next_state
-  latches_settled values zero fs h = refl
-  latches_settled values (suc f) fs h = taken_same (pair_set_rules w.fault) (env_at w values f) (cell_at w path f) 0
-      w.circuit.dffs
-      (λ j l. h f (omega arith) (get_or w.circuit.dffs j no_net).0 (valid.circuit.data_known j l))
+  -- the latches of a frame as the laws of parts have them
+  latches_are : (values : List (List Pair)) (f : ℕ) → latches_over w path values f ≡ latches_by w path (env_at w values) f
+  unfolding latches_over
+  latches_are values zero = refl
+  latches_are values (suc f) = refl
 
-  -- in a window where every cell is that of the decisions, each net holds what it gets
-  pub cells_hold : (values : List (List Pair)) → AreCells w path values → (f x : ℕ) → f < w.frames
-      → x < net_count w.circuit → HoldsValue w path values f x
-  cells_hold values are f x fs xs =
-      let c = w.circuit in
-      let r = pair_set_rules w.fault in
-      let depth = circuit_depth c valid.circuit in
-      let I = frame_inputs w path f in
-      let L = latches_at w path f in
-      are.cells f x fs xs ∙ ((frame_settled c depth.0 depth.1 r I L).settled x xs
-      ∙ sym (ap (λ (M : List (List Pair)). net_value_over c r I M (env_at w values f) x)
-      (latches_settled values f (omega (arith, fs)) (λ g gs y ys. are.cells g y (omega (arith, gs, fs)) ys))
-      ∙ over_same c r I I L L (env_at w values f) (cell_at w path f) x (λ l. refl) (λ a b. refl)
-      (λ j at pin. are.cells f (arg_at c (x - first_gate_net c) j) fs
-      (valid.circuit.known (x - first_gate_net c) j (omega (arith, at, xs)) pin))))
+  module _ (is : ℕ → ℕ → Bool) (closed : IsClosedBack w.circuit w.frames is) where
+    -- where the cell of each of these nets is that of the decisions, each of them holds what it gets
+    pub cells_hold : (values : List (List Pair)) → AreCells w is path values → (f x : ℕ) → f < w.frames
+        → x < net_count w.circuit → is f x ≡ true → HoldsValue w path values f x
+    cells_hold values are f x fs xs m =
+        part_holds w valid path (env_at w values) is closed are.cells f x fs xs m
+        ∙ sym (ap (λ (L : List (List Pair)). net_value_over w.circuit (pair_set_rules w.fault) (frame_inputs w path f) L
+        (env_at w values f) x) (latches_are values f))
 
-  -- and where each net holds what it gets, every cell is that of the decisions
-  pub holds_cells : (values : List (List Pair))
-      → ((f x : ℕ) → f < w.frames → x < net_count w.circuit → HoldsValue w path values f x) → AreCells w path values
-  holds_cells values h = record { cells = λ f x fs xs. below (suc f) f (omega (arith, fs)) x (omega arith) xs } where
-    below : (n g : ℕ) → n ≤ w.frames → (x : ℕ) → g < n → x < net_count w.circuit → env_at w values g x
-        ≡ cell_at w path g x
-    below zero g ns x less xs = absurd (omega (arith, less))
-    below (suc n) g ns x less xs = elim (eqb_tells g n) [
-      | inr p ↦ let ne : g ≢ n = p.1 in below n g (omega (arith, ns)) x (omega (arith, less, ne)) xs
-      | inl p ↦
-          let c = w.circuit in
-          let r = pair_set_rules w.fault in
-          let depth = circuit_depth c valid.circuit in
-          let L = latches_settled values n (omega (arith, ns)) (λ m ms y ys. below n m (omega (arith, ns)) y ms ys) in
-          let settled : IsSettled c r (frame_inputs w path n) (latches_at w path n) (env_at w values n) = record {
-            settled = λ y ys. h n y (omega (arith, ns)) ys ∙ ap
-                (λ (M : List (List Pair)). net_value_over c r (frame_inputs w path n) M (env_at w values n) y) L;
-          } in
-          subst (λ (m : ℕ). env_at w values m x ≡ cell_at w path m x) (sym p.1)
-          (settled_is_frame c depth.0 depth.1 r (frame_inputs w path n) (latches_at w path n) (env_at w values n)
-          settled x xs)
-    ]
+    -- and where each of them holds what it gets, its cell is that of the decisions
+    pub holds_cells : (values : List (List Pair))
+        → ((f x : ℕ) → f < w.frames → x < net_count w.circuit → is f x ≡ true → HoldsValue w path values f x)
+        → AreCells w is path values
+    holds_cells values h = record {
+      cells = part_cells w valid path (env_at w values) is closed
+          (λ f x fs xs m. h f x fs xs m ∙ ap (λ (L : List (List Pair)). net_value_over w.circuit (pair_set_rules w.fault)
+          (frame_inputs w path f) L (env_at w values f) x) (latches_are values f));
+    }

@@ -1,6 +1,7 @@
 pub mod NodeLaws
 pub mod TrialLaws
 pub mod StartLaws
+pub mod RestrictLaws
 pub mod PlaceLaws
 pub mod ReaderLaws
 pub mod HoldLaws

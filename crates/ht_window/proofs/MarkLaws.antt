@@ -1,5 +1,5 @@
 -- Going back to a mark.
-use Rattle.std.proofs.Common.{◌≡◌, ◌≢◌, ◌<◌, ◌≤◌, ◌-◌, ◌⊎◌, inl, inr, ℕ, List, length, get_or, take, sym, ◌∙◌, ap, arith, subst}
+use Rattle.std.proofs.Common.{◌≡◌, ◌≢◌, ◌<◌, ◌≤◌, ◌-◌, ◌⊎◌, inl, inr, ℕ, List, Bool, Option, length, get_or, take, sym, ◌∙◌, ap, arith, subst}
 use Rattle.std.proofs.lemmas.List.{length-take-le}
 use Rattle.std.proofs.lemmas.Bool.Decides.{eqb_tells}
 use Rattle.ht_net.proofs.FrameLaws.{le_or_lt}
@@ -8,18 +8,20 @@ use Rattle.ht_trail.specs.declared.cells.Saved.{Saved}
 use Rattle.ht_trail.specs.Trails.{CellsState}
 use Rattle.ht_tree.specs.declared.token.Assign3.{Assign3}
 use Rattle.ht_tree.specs.Windows.{SearchWindow}
+use Rattle.ht_relevant.specs.Near.{RelevantState}
 use Rattle.ht_window.specs.Cells.{IsHistory, decision_mark}
 use Rattle.ht_window.specs.States.{WindowState, mark_before, undone}
 use Rattle.ht_window.proofs.HistoryLaws.{mark_old, mark_small}
 
-module _ (s : WindowState) (w : SearchWindow) (path : List Assign3) (marks : List ℕ) (cells : CellsState (List Pair))
-    (h : IsHistory w path marks cells)
-    (is : record { window = w; decisions = path; marks = marks; mark = length cells.trail } ≡ s) where
+module _ (s : WindowState) (w : SearchWindow) (is : ℕ → ℕ → Bool) (relevant : Option RelevantState) (path : List Assign3)
+    (marks : List ℕ) (cells : CellsState (List Pair))
+    (h : IsHistory w is path marks cells)
+    (state : record { window = w; decisions = path; marks = marks; mark = length cells.trail; relevant = relevant } ≡ s) where
   pub mark_is : (k : ℕ) → mark_before s k ≡ decision_mark marks cells k
-  mark_is k = sym (ap (λ (t : WindowState). mark_before t k) is)
+  mark_is k = sym (ap (λ (t : WindowState). mark_before t k) state)
 
   pub few_marks : (k : ℕ) → k ≤ length s.decisions → k ≤ length marks
-  few_marks k few = let n = ap (λ (t : WindowState). length t.decisions) is in let c = h.count
+  few_marks k few = let n = ap (λ (t : WindowState). length t.decisions) state in let c = h.count
       in omega (arith, n, c, few)
 
   count_is : (m n : ℕ) → n ≤ length marks → ((j : ℕ) → n ≤ j → j < length marks → m ≤ get_or marks j 0) → (n ≡ 0)
@@ -55,15 +57,15 @@ module _ (s : WindowState) (w : SearchWindow) (path : List Assign3) (marks : Lis
       → (n ≡ 0) ⊎ (get_or marks (n - 1) 0 < m) → (k : ℕ) → k ≤ length s.decisions → m ≡ mark_before s k → n ≡ k
   counted m n = subst (λ (l : List ℕ). n ≤ length l → ((j : ℕ) → n ≤ j → j < length l → m ≤ get_or l j 0)
       → (n ≡ 0) ⊎ (get_or marks (n - 1) 0 < m) → (k : ℕ) → k ≤ length s.decisions → m ≡ mark_before s k → n ≡ k)
-      (ap (λ (t : WindowState). t.marks) is) (count_is m n)
+      (ap (λ (t : WindowState). t.marks) state) (count_is m n)
 
-  pub undone_is : (v : SearchWindow) (after : List Assign3) (fewer : List ℕ) (trail : List (Saved (List Pair)))
-      (m n k : ℕ)
-      → v ≡ w → after ≡ take n path → fewer ≡ take n marks → trail ≡ take m cells.trail → n ≡ k → k ≤ length s.decisions
+  pub undone_is : (kept : Option RelevantState) (v : SearchWindow) (after : List Assign3) (fewer : List ℕ)
+      (trail : List (Saved (List Pair))) (m n k : ℕ)
+      → kept ≡ relevant → v ≡ w → after ≡ take n path → fewer ≡ take n marks → trail ≡ take m cells.trail → n ≡ k → k ≤ length s.decisions
       → m ≡ mark_before s k
-      → record { window = v; decisions = after; marks = fewer; mark = length trail } ≡ undone s k
-  undone_is v after fewer trail m n k vs ps ms ts nk few at =
-      let small = mark_small w path marks cells h k (few_marks k few) in
+      → record { window = v; decisions = after; marks = fewer; mark = length trail; relevant = kept } ≡ undone s k
+  undone_is kept v after fewer trail m n k rs vs ps ms ts nk few at =
+      let small = mark_small w is path marks cells h k (few_marks k few) in
       let mk = mark_is k in
       let long : length trail
       ≡ mark_before s k = ap length ts ∙ (length-take-le m cells.trail (omega (arith, small, at, mk)) ∙ at) in
@@ -72,10 +74,12 @@ module _ (s : WindowState) (w : SearchWindow) (path : List Assign3) (marks : Lis
         decisions = (ps ∙ ap (λ (j : ℕ). take j path) nk) i;
         marks = (ms ∙ ap (λ (j : ℕ). take j marks) nk) i;
         mark = long i;
+        relevant = rs i;
       })
       ∙ (λ i. record {
-        window = (is i).window;
-        decisions = take k (is i).decisions;
-        marks = take k (is i).marks;
+        window = (state i).window;
+        decisions = take k (state i).decisions;
+        marks = take k (state i).marks;
         mark = mark_before s k;
+        relevant = (state i).relevant;
       })

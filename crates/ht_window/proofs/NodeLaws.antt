@@ -7,7 +7,6 @@ use Rattle.ht_tree.specs.declared.token.Assign3.{Assign3}
 use Rattle.ht_tree.specs.declared.token.Choice.{Choice}
 use Rattle.ht_tree.specs.declared.token.Choice.TheVariants as choice
 use Rattle.ht_tree.specs.declared.token.Status3.TheVariants as status3
-use Rattle.ht_tree.specs.declared.window.Spot.{Spot}
 use Rattle.ht_tree.specs.declared.window.Status.{Status}
 use Rattle.ht_tree.specs.declared.window.Status.TheVariants.{Dead, Sure, Open}
 use Rattle.ht_tree.specs.Walks.{Node, Fits, decides, path_of}

@@ -11,9 +11,12 @@ use Rattle.ht_events.specs.Pending.{CoreState, IsPending, QuietAgree, core_items
 use Rattle.ht_tree.specs.Windows.{SearchWindow, IsWindow}
 use Rattle.ht_window.specs.Standing.{Standing}
 use Rattle.ht_window.specs.Cells.{cell_index, cell_count, value_over, HoldsValue, AreCells}
-use Rattle.ht_window.specs.Holding.{HeldState, item_agrees, KeepsHeld}
-use Rattle.ht_window.specs.Turns.{HoldsOrPends, IsRenewed, HoldsElsewhere, is_reached}
-use Rattle.ht_net.specs.declared.fault.Fault.{Fault}
+use Rattle.ht_relevant.specs.Near.{RelevantState}
+use Rattle.ht_relevant.specs.Relevant.{IsClosedBack}
+use Rattle.ht_window.specs.Matters.{is_relevant}
+use Rattle.ht_window.specs.Holding.{HeldState, MayHold, item_agrees, KeepsHeld}
+use Rattle.ht_relevant.specs.Reached.{begins_at}
+use Rattle.ht_window.specs.Turns.{HoldsOrPends, IsRenewed, HoldsElsewhere}
 use Rattle.std.specs.Prelude.{Option}
 use Rattle.ht_window.proofs.PlaceLaws.{this_or_other}
 use Rattle.ht_window.proofs.ItemNetLaws.{item_net}
@@ -26,6 +29,7 @@ pub renewed_more : (s t u : CoreState) (a b d : HeldState) → IsRenewed s a t b
 renewed_more s t u a b d h k = record {
   plan = k.plan ∙ h.plan;
   standing = k.standing ∙ h.standing;
+  relevant = k.relevant ∙ h.relevant;
   holds = λ f x fs xs old. k.holds f x (subst (λ (n : Standing). f < n.window.frames) (sym h.standing) fs)
       (subst (λ (n : Standing). x < net_count n.window.circuit) (sym h.standing) xs) (h.holds f x fs xs old);
 }
@@ -71,7 +75,7 @@ module _ (s t : CoreState) (a b : HeldState) (valid : IsWindow a.standing.window
     (count : length a.cells.values ≡ cell_count a.standing.window)
     (f x : ℕ) (fs : f < a.standing.window.frames) (xs : x < net_count a.standing.window.circuit)
     (circuit : s.plan.circuit ≡ a.standing.window.circuit) (frames : s.plan.frames ≡ a.standing.window.frames)
-    (same : b.standing ≡ a.standing)
+    (same : b.standing ≡ a.standing) (kept : b.relevant ≡ a.relevant)
     (now : b.cells.values ≡ set a.cells.values (cell_index a.standing.window f x)
     (value_over a.standing.window a.standing.path a.cells.values f x))
     (plan : t.plan ≡ s.plan) (more : (y : ℕ) → IsPending s y → IsPending t y)
@@ -83,15 +87,17 @@ module _ (s t : CoreState) (a b : HeldState) (valid : IsWindow a.standing.window
       let p = a.standing.path in
       let old = a.cells.values in
       let v = value_over w p old f x in
-      subst (λ (n : Standing). HoldsOrPends t (record { standing = n; cells = b.cells }) g y) (sym same)
-      (λ free. subst (λ (l : List (List Pair)). HoldsValue w p l g y) (sym now) (elim here [
+      subst (λ (n : Standing). HoldsOrPends t (record { standing = n; cells = b.cells; relevant = b.relevant }) g y)
+      (sym same)
+      (λ free m. subst (λ (l : List (List Pair)). HoldsValue w p l g y) (sym now) (elim here [
         | inl e ↦ same_holds w valid p old count f x v fs xs g y ys e refl
         | inr other ↦ others_hold w valid p old count f x v fs xs g y gs ys
             (λ at r. free at (loads (item_at w.circuit g (y - w.circuit.inputs))
             (subst (λ (k : ℕ). IsReader s.plan.circuit k f x (item_at w.circuit g (y - w.circuit.inputs))) (sym frames)
             (subst (λ (c : Netlist). IsReader c w.frames f x (item_at w.circuit g (y - w.circuit.inputs)))
             (sym circuit) r)))) other.0
-            (other.1 (λ at pends. free at (more (item_at w.circuit g (y - w.circuit.inputs)) pends)))
+            (other.1 (λ at pends. free at (more (item_at w.circuit g (y - w.circuit.inputs)) pends))
+            (sym (ap (λ (o : Option RelevantState). is_relevant o g y) kept) ∙ m))
       ]))
 
   pub renewed_write : IsRenewed s a t b × HoldsOrPends t b f x
@@ -99,6 +105,7 @@ module _ (s t : CoreState) (a b : HeldState) (valid : IsWindow a.standing.window
     record {
       plan = plan;
       standing = same;
+      relevant = kept;
       holds = λ g y gs ys old. stands g y gs ys (elim (this_or_other a.standing.window a.cells.values count f x
           (value_over a.standing.window a.standing.path a.cells.values f x) fs xs g y) [
             | inl e ↦ inl e
@@ -122,43 +129,39 @@ this_latch c f x = elim (eqb_tells f 0) [
   ]
 ]
 
--- once both lines and the latches of the first frame are renewed, each net holds what it gets or is pending
-pub all_renewed : (s t : CoreState) (a b : HeldState) (before : Option Fault) → HoldsElsewhere a before
-    → IsRenewed s a t b
+-- once the line and the latches of the first frame are renewed, each net that matters holds what it gets or is pending
+pub all_renewed : (s t : CoreState) (a b : HeldState) → HoldsElsewhere a → IsRenewed s a t b
     → ((f x : ℕ) → f < a.standing.window.frames → x < net_count a.standing.window.circuit
-    → is_reached a.standing.window.circuit before x ≡ true → HoldsOrPends t b f x)
-    → ((f x : ℕ) → f < a.standing.window.frames → x < net_count a.standing.window.circuit
-    → is_reached a.standing.window.circuit a.standing.window.fault x ≡ true → HoldsOrPends t b f x)
+    → begins_at a.standing.window.circuit a.standing.window.fault x ≡ true → HoldsOrPends t b f x)
     → ((x : ℕ) → a.standing.window.circuit.inputs ≤ x → x < first_gate_net a.standing.window.circuit
     → HoldsOrPends t b 0 x)
     → (f x : ℕ) → f < a.standing.window.frames → x < net_count a.standing.window.circuit → HoldsOrPends t b f x
-all_renewed s t a b before elsewhere renewed old new latches f x fs xs =
+all_renewed s t a b elsewhere renewed new latches f x fs xs =
     let w = a.standing.window in
     let c = w.circuit in
-    elim (cases_Bool (is_reached c before x)) [
-      | inl o ↦ old f x fs xs o
-      | inr far ↦ elim (cases_Bool (is_reached c w.fault x)) [
-        | inl n ↦ new f x fs xs n
-        | inr clear ↦ elim (this_latch c f x) [
-          | inl at ↦ subst (λ (g : ℕ). HoldsOrPends t b g x) (sym at.0) (latches x at.1 at.2)
-          | inr late ↦ renewed.holds f x fs xs (λ free. elsewhere.holds f x fs xs far clear late)
-        ]
+    elim (cases_Bool (begins_at c w.fault x)) [
+      | inl n ↦ new f x fs xs n
+      | inr clear ↦ elim (this_latch c f x) [
+        | inl at ↦ subst (λ (g : ℕ). HoldsOrPends t b g x) (sym at.0) (latches x at.1 at.2)
+        | inr late ↦ renewed.holds f x fs xs (λ free m. elsewhere.holds f x fs xs clear late)
       ]
     ]
 
 -- where all nets hold what they get or are pending, and then none is pending, every cell is that of the decisions
 pub all_followed : (t u : CoreState) (b d : HeldState) → IsWindow b.standing.window
+    → IsClosedBack b.standing.window.circuit b.standing.window.frames (is_relevant b.relevant)
     → t.plan.circuit ≡ b.standing.window.circuit → t.plan.frames ≡ b.standing.window.frames → u.plan ≡ t.plan
     → ((f x : ℕ) → f < b.standing.window.frames → x < net_count b.standing.window.circuit → HoldsOrPends t b f x)
     → KeepsHeld b d → (QuietAgree t (item_agrees b) → QuietAgree u (item_agrees d))
-    → ((y : ℕ) → y < core_items t → ¬ IsPending u y) → AreCells b.standing.window b.standing.path d.cells.values
-all_followed t u b d valid circuit frames plan all kept agree none =
-    settled_cells b d valid kept inputs (settled_all t u w b d plan circuit frames quiet agree none) where
+    → ((y : ℕ) → y < core_items t → ¬ IsPending u y)
+    → AreCells b.standing.window (is_relevant b.relevant) b.standing.path d.cells.values
+all_followed t u b d valid closed circuit frames plan all kept agree none =
+    settled_cells b d valid closed kept inputs (settled_all t u w b d plan circuit frames quiet agree none) where
       w : SearchWindow
       w = b.standing.window
 
       inputs : (f i : ℕ) → f < b.standing.window.frames → i < b.standing.window.circuit.inputs
-          → HoldsValue b.standing.window b.standing.path b.cells.values f i
+          → MayHold b f i
       inputs f i fs is = all f i fs (omega (arith, is)) (λ at pends. absurd (omega (arith, at, is)))
 
       quiet : QuietAgree t (item_agrees b)

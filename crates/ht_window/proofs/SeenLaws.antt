@@ -17,11 +17,15 @@ use Rattle.ht_tree.specs.declared.token.Assign3.{Assign3}
 use Rattle.ht_tree.specs.declared.window.WindowPlace.{WindowPlace}
 use Rattle.ht_tree.specs.Windows.{SearchWindow, latches_at, cell_at, pair_set_rules}
 use Rattle.ht_tree.specs.Decisions.{is_in}
-use Rattle.ht_tree.specs.Places.{set_at}
+use Rattle.ht_tree.specs.Places.{set_at, spot_net}
+use Rattle.ht_relevant.specs.Alike.{IsAlike}
+use Rattle.ht_relevant.specs.Relevant.{IsRelevant, counts_state}
+use Rattle.ht_relevant.proofs.AlikeLaws.{none_differs, not_all_differ}
 use Rattle.ht_window.specs.Starts.{marked}
 use Rattle.ht_window.proofs.StartLaws.{marked_is}
 use Rattle.ht_window.specs.Seen.{shows, shows_at}
 use Rattle.ht_window.specs.declared.places.Look.{Look}
+use Rattle.ht_window.specs.declared.places.Look.TheVariants.{Must, May}
 
 module _ {X : Type 0} (test : X → Bool) where
   found_here : (b : Bool) (x : X) → cond b (Some x) None ≡ then_some b x
@@ -119,22 +123,18 @@ next_set w path j one inside =
     (λ (k : ℕ). (pair_set_rules w.fault).data_pin k (cell_at w path 0 (get_or w.circuit.dffs j no_net).0)) at)
 
 -- from an output of a frame on: it shows what is looked for, or what is left is after it
-pub output_step : (w : SearchWindow) (path : List Assign3) (look : Look) (frame o count : ℕ) (c : Netlist) (net : NetId)
-    (set : List Pair) (shown b : Bool) → c ≡ w.circuit → count ≡ length c.outputs → o < count
-    → net ≡ get_or c.outputs o no_net → set ≡ cell_at w path frame net.0 → shown ≡ shows look set → shown ≡ b
+pub output_step : (w : SearchWindow) (path : List Assign3) (look : Look) (frame o count : ℕ) (b : Bool)
+    → count ≡ length w.circuit.outputs → o < count → b ≡ shows look (set_at w path frame (Output o))
     → (first : Option WindowPlace) → first ≡ find (shows_at w path look)
     (map (λ o. record { frame = frame; spot = Output o }) (range_with_len o (length w.circuit.outputs - o)))
     → first ≡ cond b (Some (record { frame = frame; spot = Output o })) (find (shows_at w path look)
     (map (λ o. record { frame = frame; spot = Output o }) (range_with_len (o + 1) (length w.circuit.outputs - (o + 1)))))
-output_step w path look frame o count c net set shown b circuit all inside net_is set_is shown_is is first before =
+output_step w path look frame o count b all inside is first before =
     let test = shows_at w path look in
     let place : ℕ → WindowPlace = λ o. record { frame = frame; spot = Output o } in
-    let count_is = all ∙ ap (λ (n : Netlist). length n.outputs) circuit in
-    let here = ap (λ (x : NetId). x.0) (net_is ∙ ap (λ (n : Netlist). get_or n.outputs o no_net) circuit) in
-    let set_here : set ≡ set_at w path frame (Output o) = set_is ∙ ap (cell_at w path frame) here in
-    before ∙ (first_of_row test place o (length w.circuit.outputs) (omega (arith, inside, count_is))
+    before ∙ (first_of_row test place o (length w.circuit.outputs) (omega (arith, inside, all))
     ∙ ap (λ (b : Bool). cond b (Some (place o)) (find test (map place (range_with_len (o + 1)
-    (length w.circuit.outputs - (o + 1)))))) (ap (shows look) (sym set_here) ∙ (sym shown_is ∙ is)))
+    (length w.circuit.outputs - (o + 1)))))) (sym is))
 
 -- from a flip-flop on: it is outside the set and shows what is looked for, or what is left is after it
 pub state_step : (w : SearchWindow) (path : List Assign3) (look : Look) (z : List Bool) (j count : ℕ) (marked_here b : Bool)
@@ -155,3 +155,32 @@ state_step w path look z j count marked_here b all inside mark_is is first befor
     ∙ ap (λ (b : Bool). cond b (Some (place j)) (find test (map place (filter kept (range_with_len (j + 1)
     (length w.circuit.dffs - (j + 1)))))))
     (ap (λ (m : Bool). not m && shows look (set_at w path 0 (State j))) (sym here) ∙ is))
+
+-- the net of an output, and of a next state
+pub output_net : (w : SearchWindow) (c : Netlist) (net : NetId) (o : ℕ) → c ≡ w.circuit
+    → net ≡ get_or c.outputs o no_net → net.0 ≡ spot_net w.circuit (Output o)
+output_net w c net o circuit is =
+    ap (λ (x : NetId). x.0) (is ∙ ap (λ (n : Netlist). get_or n.outputs o no_net) circuit)
+
+pub state_net : (w : SearchWindow) (c : Netlist) (net : NetId) (j : ℕ) → c ≡ w.circuit
+    → net ≡ get_or c.dffs j no_net → net.0 ≡ spot_net w.circuit (State j)
+state_net w c net j circuit is =
+    ap (λ (x : NetId). x.0) (is ∙ ap (λ (n : Netlist). get_or n.dffs j no_net) circuit)
+
+-- a set in which the machines are alike shows nothing
+alike_shows : (look : Look) (set : List Pair) → IsAlike set → shows look set ≡ false
+alike_shows Must set h = not_all_differ set h
+alike_shows May set h = none_differs set h
+
+-- nor does a place whose net doesn't matter
+pub output_quiet : (w : SearchWindow) (is : ℕ → ℕ → Bool) → IsRelevant w is → (path : List Assign3) (look : Look)
+    (f o : ℕ) → f < w.frames → o < length w.circuit.outputs → is f (spot_net w.circuit (Output o)) ≡ false
+    → false ≡ shows look (set_at w path f (Output o))
+output_quiet w is h path look f o fs os free =
+    sym (alike_shows look (set_at w path f (Output o)) (h.outputs f o fs os free path))
+
+pub state_quiet : (w : SearchWindow) (is : ℕ → ℕ → Bool) → IsRelevant w is → (path : List Assign3) (look : Look)
+    (j : ℕ) → j < length w.circuit.dffs → counts_state w.start j ≡ true → is 0 (spot_net w.circuit (State j)) ≡ false
+    → false ≡ shows look (set_at w path 0 (State j))
+state_quiet w is h path look j js counts free =
+    sym (alike_shows look (set_at w path 0 (State j)) (h.states j js counts free path))

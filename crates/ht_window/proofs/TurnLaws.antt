@@ -1,5 +1,5 @@
 -- Which nets get the same under another fault and another start, and the cells of the first frames.
-use Rattle.std.proofs.Common.{◌≡◌, ◌<◌, ◌≤◌, ◌+◌, ◌*◌, ◌-◌, inl, inr, ℕ, suc, zero, List, Bool, false, Option, None, Some, cond, map, length, get_or, take, refl, sym, ◌∙◌, ap, arith, subst}
+use Rattle.std.proofs.Common.{◌≡◌, ◌<◌, ◌≤◌, ◌+◌, ◌*◌, ◌-◌, inl, inr, ℕ, suc, zero, List, Bool, true, false, Option, None, Some, cond, map, length, get_or, take, refl, sym, ◌∙◌, ap, arith, subst}
 use Rattle.std.specs.List.{range_with_len}
 use Rattle.std.proofs.lemmas.Bool.Decides.{nat_tests}
 use Rattle.std.proofs.lemmas.List.{get_or-take}
@@ -17,52 +17,54 @@ use Rattle.ht_tree.proofs.PlaceLaws.{taken_at}
 use Rattle.ht_tree.specs.declared.token.Assign3.{Assign3}
 use Rattle.ht_tree.specs.Decisions.{is_in, decided_value, latch_pairs, latch_values_left}
 use Rattle.ht_tree.specs.Windows.{SearchWindow, Start, one_frame, unknown, state_pair, back, IsWindow, first_latch, frame_inputs, pair_set_rules, latches_at}
+use Rattle.ht_relevant.specs.Relevant.{IsClosedBack}
 use Rattle.ht_window.specs.Cells.{env_at, blank, latches_over, value_over, HoldsValue, AreCells}
 use Rattle.ht_window.specs.Standing.{Standing}
 use Rattle.ht_window.specs.Holding.{HeldState}
-use Rattle.ht_window.specs.Turns.{is_line_of, is_reached, HoldsElsewhere}
+use Rattle.ht_relevant.specs.Reached.{leads_to, begins_at}
+use Rattle.ht_window.specs.Turns.{HoldsElsewhere}
 use Rattle.ht_window.proofs.PlaceLaws.{rows_inside}
 use Rattle.ht_window.proofs.ReaderLaws.{over_same}
 use Rattle.ht_window.proofs.HoldLaws.{cells_hold}
 
 -- a stem, a data pin and the pins of a gate that the fault isn't at
-no_stem : (c : Netlist) (site : Site) (x : ℕ) → is_line_of c site x ≡ false → is_stem site x ≡ false
+no_stem : (c : Netlist) (site : Site) (x : ℕ) → leads_to c site x ≡ false → is_stem site x ≡ false
 no_stem c (Stem y) x h = h
 no_stem c (DffPin k) x h = refl
 no_stem c (GatePin g k) x h = refl
 
-no_data_pin : (c : Netlist) (site : Site) (j : ℕ) → j < length c.dffs → is_line_of c site (c.inputs + j) ≡ false
+no_data_pin : (c : Netlist) (site : Site) (j : ℕ) → j < length c.dffs → leads_to c site (c.inputs + j) ≡ false
     → is_data_pin site j ≡ false
 no_data_pin c (Stem y) j js h = refl
 no_data_pin c (GatePin g k) j js h = refl
 no_data_pin c (DffPin k) j js h = grind (arith, nat_tests, h)
 
-no_gate : (c : Netlist) (site : Site) (x : ℕ) → first_gate_net c ≤ x → is_line_of c site x ≡ false
+no_gate : (c : Netlist) (site : Site) (x : ℕ) → first_gate_net c ≤ x → leads_to c site x ≡ false
     → is_pin_of site (x - first_gate_net c) ≡ false
 no_gate c (Stem y) x at h = refl
 no_gate c (DffPin k) x at h = refl
 no_gate c (GatePin g k) x at h = grind (arith, nat_tests, h)
 
-no_gate_of : (c : Netlist) (fault : Option Fault) (x : ℕ) → first_gate_net c ≤ x → is_reached c fault x ≡ false
+no_gate_of : (c : Netlist) (fault : Option Fault) (x : ℕ) → first_gate_net c ≤ x → begins_at c fault x ≡ false
     → is_at_gate fault (x - first_gate_net c) ≡ false
 no_gate_of c None x at h = refl
 no_gate_of c (Some fault) x at h = no_gate c fault.site x at h
 
-plain_stem : (c : Netlist) (fault : Option Fault) (x : ℕ) (v : List Pair) → is_reached c fault x ≡ false
+plain_stem : (c : Netlist) (fault : Option Fault) (x : ℕ) (v : List Pair) → begins_at c fault x ≡ false
     → (pair_set_rules fault).stem x v ≡ v
 unfolding forced
 plain_stem c None x v h = refl
 plain_stem c (Some fault) x v h = ap (λ (b : Bool). cond b (stuck_set fault.value v) v) (no_stem c fault.site x h)
 
 plain_data_pin : (c : Netlist) (fault : Option Fault) (j : ℕ) (v : List Pair) → j < length c.dffs
-    → is_reached c fault (c.inputs + j) ≡ false → (pair_set_rules fault).data_pin j v ≡ v
+    → begins_at c fault (c.inputs + j) ≡ false → (pair_set_rules fault).data_pin j v ≡ v
 unfolding forced
 plain_data_pin c None j v js h = refl
 plain_data_pin c (Some fault) j v js h = ap (λ (b : Bool). cond b (stuck_set fault.value v) v)
     (no_data_pin c fault.site j js h)
 
 plain_gate : (c : Netlist) (fault : Option Fault) (e : ℕ → List Pair) (x : ℕ) → first_gate_net c ≤ x
-    → is_reached c fault x ≡ false
+    → begins_at c fault x ≡ false
     → gate_output c (pair_set_rules fault) e (x - first_gate_net c)
     ≡ gate_output c (pair_set_rules None) e (x - first_gate_net c)
 unfolding gate_output
@@ -88,7 +90,7 @@ abbrev good : SearchWindow → SearchWindow
 good w = record w { fault = None }
 
 module _ (w : SearchWindow) (path : List Assign3) (values : List (List Pair)) where
-  good_latch : (f j : ℕ) → j < length w.circuit.dffs → is_reached w.circuit w.fault (w.circuit.inputs + j) ≡ false
+  good_latch : (f j : ℕ) → j < length w.circuit.dffs → begins_at w.circuit w.fault (w.circuit.inputs + j) ≡ false
       → get_or (latches_over w path values f) j blank ≡ get_or (latches_over (good w) path values f) j blank
   unfolding latches_over
   good_latch zero j js free =
@@ -107,7 +109,7 @@ module _ (w : SearchWindow) (path : List Assign3) (values : List (List Pair)) wh
       ∙ sym (taken_at (pair_set_rules None) e 0 c.dffs j blank js)))))
 
   -- a net that the fault doesn't reach first gets what it gets in the good machine
-  unreached : (f x : ℕ) → is_reached w.circuit w.fault x ≡ false
+  unreached : (f x : ℕ) → begins_at w.circuit w.fault x ≡ false
       → value_over w path values f x ≡ value_over (good w) path values f x
   unfolding net_value_over
   unreached f x free =
@@ -124,7 +126,7 @@ module _ (w : SearchWindow) (path : List Assign3) (values : List (List Pair)) wh
           | inl at ↦
               let back : c.inputs + (x - c.inputs) ≡ x = omega (arith, at) in
               driven_latch c r I L e x at low
-              ∙ (good_latch f (x - c.inputs) (omega (arith, at, low)) (ap (is_reached c w.fault) back ∙ free)
+              ∙ (good_latch f (x - c.inputs) (omega (arith, at, low)) (ap (begins_at c w.fault) back ∙ free)
               ∙ sym (driven_latch c q I M e x at low))
           | inr l ↦ driven_input c r I L e x l ∙ sym (driven_input c q I M e x l)
         ]
@@ -148,34 +150,31 @@ module _ (w : SearchWindow) (path : List Assign3) (values : List (List Pair)) wh
         latch zero late at low = let high = late refl at in absurd (omega (arith, high, low))
         latch (suc g) late at low = refl
 
--- a net that neither fault reaches first, and that isn't a latch of the first frame, holds its cell in the other window
--- too
-turned_hold : (w : SearchWindow) → IsWindow w → (path : List Assign3) (values : List (List Pair))
-    → AreCells w path values → (fault : Option Fault) (s : Start) (f x : ℕ) → f < w.frames → x < net_count w.circuit
-    → is_reached w.circuit w.fault x ≡ false → is_reached w.circuit fault x ≡ false
+-- In a whole window of the good machine a net that the fault doesn't reach first, and that isn't a latch of the first
+-- frame, holds its cell in the window of the fault from another start too.
+turned_hold : (w : SearchWindow) → IsWindow w → w.fault ≡ None → (path : List Assign3) (values : List (List Pair))
+    → AreCells w (λ f x. true) path values → (fault : Option Fault) (s : Start) (f x : ℕ) → f < w.frames
+    → x < net_count w.circuit → begins_at w.circuit fault x ≡ false
     → (f ≡ 0 → w.circuit.inputs ≤ x → first_gate_net w.circuit ≤ x)
     → HoldsValue (record w { fault = fault; start = s }) path values f x
-turned_hold w valid path values are fault s f x fs xs free freed late =
-    cells_hold w valid path values are f x fs xs
-    ∙ (unreached w path values f x free
+turned_hold w valid plain path values are fault s f x fs xs freed late =
+    let whole : IsClosedBack w.circuit w.frames (λ f x. true) = record {
+      gates = λ f g i fs gs l m. refl;
+      dffs = λ f j fs js m. refl;
+    } in
+    cells_hold w valid path (λ f x. true) whole values are f x fs xs refl
+    ∙ (unreached w path values f x (ap (λ (k : Option Fault). begins_at w.circuit k x) plain)
     ∙ (other_start (good w) path values s f x late
     ∙ sym (unreached (record w { fault = fault; start = s }) path values f x freed)))
 
--- the cells of a window under another fault and another start
-pub turned_elsewhere : (w : SearchWindow) → IsWindow w → (path : List Assign3) (b : HeldState) (fault : Option Fault)
-    (s : Start) (before : Option Fault)
+-- the cells of a whole window of the good machine under a fault and another start
+pub turned_elsewhere : (w : SearchWindow) → IsWindow w → w.fault ≡ None → (path : List Assign3) (b : HeldState)
+    (fault : Option Fault) (s : Start)
     → b.standing ≡ record { window = record w { fault = fault; start = s }; path = path }
-    → AreCells w path b.cells.values → before ≡ w.fault → HoldsElsewhere b before
-turned_elsewhere w valid path b fault s before is are same =
-    let there : HoldsElsewhere (record {
-      standing = record { window = record w { fault = fault; start = s }; path = path };
-      cells = b.cells;
-    }) w.fault = record { holds = turned_hold w valid path b.cells.values are fault s } in
-    subst (λ (n : Standing). HoldsElsewhere (record { standing = n; cells = b.cells }) before) (sym is)
-    (subst (HoldsElsewhere (record {
-      standing = record { window = record w { fault = fault; start = s }; path = path };
-      cells = b.cells;
-    })) (sym same) there)
+    → AreCells w (λ f x. true) path b.cells.values → HoldsElsewhere b
+turned_elsewhere w valid plain path b fault s is are =
+    subst (λ (n : Standing). HoldsElsewhere (record { standing = n; cells = b.cells; relevant = b.relevant })) (sym is)
+    (record { holds = turned_hold w valid plain path b.cells.values are fault s })
 
 module _ (w : SearchWindow) (path : List Assign3) (n : ℕ) where
   latches_front : (f : ℕ) → latches_at (record w { frames = n }) path f ≡ latches_at w path f
@@ -185,13 +184,13 @@ module _ (w : SearchWindow) (path : List Assign3) (n : ℕ) where
   latches_front (suc f) = ap (next_state w.circuit (pair_set_rules w.fault) (frame_inputs w path f)) (latches_front f)
 
   -- the cells of the first frames are those of the window that has no more
-  pub front_cells : (values : List (List Pair)) → n ≤ w.frames → AreCells w path values
-      → AreCells (record w { frames = n }) path (take (n * net_count w.circuit) values)
+  pub front_cells : (values : List (List Pair)) → n ≤ w.frames → AreCells w (λ f x. true) path values
+      → AreCells (record w { frames = n }) (λ f x. true) path (take (n * net_count w.circuit) values)
   front_cells values few are = record {
-    cells = λ f x fs xs.
+    cells = λ f x fs xs m.
         let nets = net_count w.circuit in
         get_or-take (n * nets) values (f * nets + x) blank (rows_inside nets n f x fs xs)
-        ∙ (are.cells f x (omega (arith, fs, few)) xs
+        ∙ (are.cells f x (omega (arith, fs, few)) xs refl
         ∙ sym (ap (λ (L : List (List Pair)). net_value w.circuit (pair_set_rules w.fault) (frame_inputs w path f) L x)
         (latches_front f)));
   }

@@ -13,6 +13,7 @@ use Rattle.ht_tree.specs.declared.token.Choice.TheVariants.{Two}
 use Rattle.ht_tree.specs.Windows.{SearchWindow, first_input, cell_at, is_undetermined}
 use Rattle.ht_tree.specs.Places.{spot_net}
 use Rattle.ht_tree.specs.WalkBack.{Wanted, undetermined_argument, bit_before, back_over, end_in_frame, latch_choice, choice_at}
+use Rattle.ht_relevant.specs.Relevant.{IsClosedBack}
 use Rattle.ht_tree.proofs.ChoiceLaws.{ends_undetermined, latch_undetermined, before_undetermined}
 
 cond_no : {X : Type 0} → (b : Bool) (x y : X) → b ≡ false → cond b x y ≡ y
@@ -114,6 +115,17 @@ module _ (w : SearchWindow) (path : List Assign3) (circuit : IsCircuit w.circuit
       (end_in_frame w path n
       (record { net = spot_net w.circuit (State (at.net - w.circuit.inputs)); bit = at.bit }))) e
       ∙ sym (cond_no (ltb at.net w.circuit.inputs) _ _ (not_below at.net w.circuit.inputs high))
+
+  -- a data net matters one frame before its latch
+  pub data_matters : (is : ℕ → ℕ → Bool) → IsClosedBack w.circuit w.frames is → (f x : ℕ) → f < w.frames → 0 < f
+      → w.circuit.inputs ≤ x → x < first_gate_net w.circuit → is f x ≡ true
+      → is (f - 1) (spot_net w.circuit (State (x - w.circuit.inputs))) ≡ true
+  data_matters is closed zero x fs some high low m = absurd (omega (arith, some))
+  data_matters is closed (suc f) x fs some high low m =
+      let e : suc f - 1 ≡ f = omega arith in
+      let back : w.circuit.inputs + (x - w.circuit.inputs) ≡ x = omega (arith, high) in
+      ap (λ (g : ℕ). is g (spot_net w.circuit (State (x - w.circuit.inputs)))) e
+      ∙ closed.dffs f (x - w.circuit.inputs) fs (omega (arith, high, low)) (ap (is (suc f)) back ∙ m)
 
   pub data_undetermined : (f x : ℕ) → 0 < f → w.circuit.inputs ≤ x → x < first_gate_net w.circuit
       → 1 < length (cell_at w path f x)

@@ -1,5 +1,5 @@
 -- The cells of a window in one array: net x of frame f has index f * (number of nets) + x.
-use Rattle.std.specs.Prelude.{◌≡◌, ◌<◌, ◌≤◌, ◌+◌, ◌-◌, ◌*◌, ◌/◌, ◌%◌, ℕ, zero, suc, List, [], ◌∷◌, ◌++◌, cond, ltb, length, get_or, take}
+use Rattle.std.specs.Prelude.{◌≡◌, ◌<◌, ◌≤◌, ◌+◌, ◌-◌, ◌*◌, ◌/◌, ◌%◌, ℕ, zero, suc, List, [], ◌∷◌, ◌++◌, Bool, true, cond, ltb, length, get_or, take}
 use Rattle.ht_tern.specs.declared.tern.Tern.TheVariants.{Unk}
 use Rattle.ht_pairs.specs.Pairs.{Pair, pair}
 use Rattle.ht_net.specs.Netlist.{net_count, first_gate_net}
@@ -38,9 +38,11 @@ value_over w path values f x = net_value_over w.circuit (pair_set_rules w.fault)
 abbrev pub HoldsValue : SearchWindow → List Assign3 → List (List Pair) → ℕ → ℕ → Type 0
 HoldsValue w path values f x = env_at w values f x ≡ value_over w path values f x
 
--- every cell is that of the decisions
-pub record AreCells (w : SearchWindow) (path : List Assign3) (values : List (List Pair)) : Type 0 where
-  pub cells : (f x : ℕ) → f < w.frames → x < net_count w.circuit → env_at w values f x ≡ cell_at w path f x
+-- the cell of each of some nets is that of the decisions
+pub record AreCells (w : SearchWindow) (is : ℕ → ℕ → Bool) (path : List Assign3) (values : List (List Pair)) : Type 0
+  where
+    pub cells : (f x : ℕ) → f < w.frames → x < net_count w.circuit → is f x ≡ true
+        → env_at w values f x ≡ cell_at w path f x
 
 -- the frame whose net a variable decides
 abbrev pub var_frame : SearchWindow → ℕ → ℕ
@@ -55,9 +57,9 @@ var_net w var = cond (ltb var (first_input w w.frames)) (var % w.circuit.inputs)
 abbrev pub decision_mark : List ℕ → CellsState (List Pair) → ℕ → ℕ
 decision_mark marks cells k = get_or (marks ++ length cells.trail ∷ []) k 0
 
--- Marks rise, and at each mark the cells were those of the decisions before it.
-pub record IsHistory (w : SearchWindow) (path : List Assign3) (marks : List ℕ) (cells : CellsState (List Pair)) : Type 0
-  where
-    pub count : length marks ≡ length path
-    pub rising : (j k : ℕ) → j < k → k ≤ length marks → decision_mark marks cells j < decision_mark marks cells k
-    pub at : (k : ℕ) → k ≤ length path → AreCells w (take k path) (at_mark cells (decision_mark marks cells k))
+-- Marks rise, and at each mark the cells of these nets were those of the decisions before it.
+pub record IsHistory (w : SearchWindow) (is : ℕ → ℕ → Bool) (path : List Assign3) (marks : List ℕ)
+    (cells : CellsState (List Pair)) : Type 0 where
+  pub count : length marks ≡ length path
+  pub rising : (j k : ℕ) → j < k → k ≤ length marks → decision_mark marks cells j < decision_mark marks cells k
+  pub at : (k : ℕ) → k ≤ length path → AreCells w is (take k path) (at_mark cells (decision_mark marks cells k))

@@ -7,12 +7,13 @@ use Rattle.ht_window.specs.Holding.{HeldState, KeepsHeld}
 
 -- What is held keeps itself.
 pub kept_same : (a : HeldState) → KeepsHeld a a
-kept_same a = record { standing = refl; later = later_now a.cells; inputs = λ f i fs is. refl }
+kept_same a = record { standing = refl; relevant = refl; later = later_now a.cells; inputs = λ f i fs is. refl }
 
 -- What the first keeps of the second and this of the third, the first keeps of the third.
 pub kept_more : (a b c : HeldState) → KeepsHeld a b → KeepsHeld b c → KeepsHeld a c
 kept_more a b c h k = record {
   standing = k.standing ∙ h.standing;
+  relevant = k.relevant ∙ h.relevant;
   later = later_more a.cells b.cells c.cells h.later k.later;
   inputs = λ f i fs is.
       subst (λ (s : Standing). f < s.window.frames → i < s.window.circuit.inputs → env_at s.window c.cells.values f i

@@ -1,43 +1,30 @@
 -- A window whose cells follow another fault and another start: which nets that reaches first, and what holds meanwhile.
-use Rattle.std.specs.Prelude.{◌≡◌, ◌<◌, ◌≤◌, ◌+◌, ◌-◌, ℕ, Bool, false, ◌&&◌, eqb, ltb, length, Option, Some, None}
-use Rattle.ht_net.specs.Netlist.{Netlist, net_count, first_gate_net}
-use Rattle.ht_net.specs.declared.fault.Site.{Site}
-use Rattle.ht_net.specs.declared.fault.Site.TheVariants.{Stem, DffPin, GatePin}
-use Rattle.ht_net.specs.declared.fault.Fault.{Fault}
+use Rattle.std.specs.Prelude.{◌≡◌, ◌<◌, ◌≤◌, ◌-◌, ℕ, false}
+use Rattle.ht_net.specs.Netlist.{net_count, first_gate_net}
 use Rattle.ht_events.specs.Items.{item_at}
 use Rattle.ht_events.specs.Pending.{CoreState, IsPending}
+use Rattle.ht_relevant.specs.Reached.{begins_at}
 use Rattle.ht_window.specs.Cells.{HoldsValue}
-use Rattle.ht_window.specs.Holding.{HeldState}
+use Rattle.ht_window.specs.Holding.{HeldState, MayHold}
 
--- a line is the stem of net x, or a pin of what drives net x
-abbrev pub is_line_of : Netlist → Site → ℕ → Bool
-is_line_of c (Stem y) x = eqb x y.0
-is_line_of c (DffPin j) x = ltb j (length c.dffs) && eqb x (c.inputs + j)
-is_line_of c (GatePin g i) x = eqb x (first_gate_net c + g)
-
--- there is a fault, and net x is the first that it reaches
-abbrev pub is_reached : Netlist → Option Fault → ℕ → Bool
-is_reached c None x = false
-is_reached c (Some fault) x = is_line_of c fault.site x
-
--- net x of frame f holds what it gets, or is pending
+-- net x of frame f holds what it gets, or is pending, or doesn't matter
 abbrev pub HoldsOrPends : CoreState → HeldState → ℕ → ℕ → Type 0
 HoldsOrPends s h f x = (h.standing.window.circuit.inputs ≤ x
     → ¬ IsPending s (item_at h.standing.window.circuit f (x - h.standing.window.circuit.inputs)))
-    → HoldsValue h.standing.window h.standing.path h.cells.values f x
+    → MayHold h f x
 
 -- From s and a to t and b each net that held what it got, or was pending, still does.
 pub record IsRenewed (s : CoreState) (a : HeldState) (t : CoreState) (b : HeldState) : Type 0 where
   pub plan : t.plan ≡ s.plan
   pub standing : b.standing ≡ a.standing
+  pub relevant : b.relevant ≡ a.relevant
   pub holds : (f x : ℕ) → f < a.standing.window.frames → x < net_count a.standing.window.circuit
       → HoldsOrPends s a f x → HoldsOrPends t b f x
 
--- Each net holds what it gets, but for those that this fault or that of the window reaches first, and for the latches
--- of the first frame.
-pub record HoldsElsewhere (h : HeldState) (before : Option Fault) : Type 0 where
+-- Each net holds what it gets, but for those that the fault of the window reaches first, and for the latches of the first
+-- frame.
+pub record HoldsElsewhere (h : HeldState) : Type 0 where
   pub holds : (f x : ℕ) → f < h.standing.window.frames → x < net_count h.standing.window.circuit
-      → is_reached h.standing.window.circuit before x ≡ false
-      → is_reached h.standing.window.circuit h.standing.window.fault x ≡ false
+      → begins_at h.standing.window.circuit h.standing.window.fault x ≡ false
       → (f ≡ 0 → h.standing.window.circuit.inputs ≤ x → first_gate_net h.standing.window.circuit ≤ x)
       → HoldsValue h.standing.window h.standing.path h.cells.values f x

@@ -1,10 +1,11 @@
 //! The walk back from a net to an undecided variable.
-ghost use Rattle.std.specs.Prelude.{◌≡◌, ◌<◌, ◌≤◌, ℕ, length};
+ghost use Rattle.std.specs.Prelude.{◌≡◌, ◌<◌, ◌≤◌, ◌+◌, ℕ, true, length};
 ghost use Rattle.ht_net.specs.Netlist.{first_gate_net, gate_at, net_count};
 ghost use Rattle.ht_tree.specs.Windows.{cell_at, pair_set_rules};
 ghost use Rattle.ht_tree.specs.Variables.{IsLegalChoice};
 ghost use Rattle.ht_tree.specs.WalkBack.{choice_at, end_in_frame, latch_choice, undetermined_argument, bit_before, walk_back};
 ghost use Rattle.ht_tree.specs.Walks.{decides};
+ghost use Rattle.ht_window.specs.Matters.{is_relevant};
 ghost use Rattle.ht_window.specs.WantedOf.{wanted_of};
 
 use crate::start::Start;
@@ -33,10 +34,14 @@ impl<'c> Window<'c> {
     fn undetermined_argument(&self, frame: u32, g: u32) -> u32
         requires frame { frame < self.now.window.frames }
         requires gate { g < length self.now.window.circuit.gates }
+        requires matters { is_relevant self.now.relevant frame
+            (first_gate_net self.now.window.circuit + g) ≡ true }
         ensures { result ≡ undetermined_argument (pair_set_rules self.now.window.fault) g
             (cell_at self.now.window self.now.decisions frame) 0
             (gate_at self.now.window.circuit g).args }
     {
+        // for the proof: what the gate reads matters too
+        self.relevance();
         let fault = self.fault();
         let args = self.circuit().gate_args(g);
         for (i, arg) in args.iter().enumerate() {
@@ -52,9 +57,15 @@ impl<'c> Window<'c> {
     fn end_in_frame(&self, frame: u32, at: Wanted) -> Wanted
         requires frame { frame < self.now.window.frames }
         requires net { at.net < net_count self.now.window.circuit }
-        ensures { wanted_of result ≡ end_in_frame self.now.window self.now.decisions frame
+        requires matters { is_relevant self.now.relevant frame at.net ≡ true }
+        requires undetermined { 1 < length
+            (cell_at self.now.window self.now.decisions frame at.net) }
+        ensures matters { is_relevant self.now.relevant frame result.net ≡ true }
+        ensures end { wanted_of result ≡ end_in_frame self.now.window self.now.decisions frame
             (wanted_of at) }
     {
+        // for the proof: what the gates read matters too
+        self.relevance();
         let circuit = self.circuit();
         let first_gate_net = circuit.inputs() + circuit.dffs();
         let mut net = at.net;
@@ -99,11 +110,14 @@ impl<'c> Window<'c> {
     pub fn walk_back(&self, frame: u32, net: NetId, wanted: bool) -> Choice
         requires frame { frame < self.now.window.frames }
         requires net { net.0 < net_count self.now.window.circuit }
+        requires matters { is_relevant self.now.relevant frame net.0 ≡ true }
         requires undetermined { 1 < length
             (cell_at self.now.window self.now.decisions frame net.0) }
         ensures choice { result ≡ walk_back self.now.window self.now.decisions frame net.0 wanted }
         ensures legal { IsLegalChoice self.now.window self.now.decisions result }
     {
+        // for the proof: what the flip-flops read matters too
+        self.relevance();
         let circuit = self.circuit();
         let inputs = circuit.inputs();
         let mut frame = frame;

@@ -13,13 +13,12 @@ use std::marker::Model;
 use std::mem;
 use std::rc::Rc;
 
-/// Windows before their first decision, one for each kind of start. One of them follows the fault and the start of a
-/// window that is asked for, by events, and the window is a copy of its first frames.
+/// Windows of the good machine before their first decision, for each kind of start one that never changes. A window that
+/// is asked for is a copy of the first frames of one of them, and follows its fault and its start by events.
 #[derive(Drop)]
 pub struct Bases<'c> {
     frame_plan: Rc<FramePlan<'c>>,
-    // at most one for each kind of start, as long as the longest that was asked for so far, with the last fault and
-    // start
+    // at most one for each kind of start, as long as the longest that was asked for so far
     windows: Vec<Window<'c>>,
 }
 
@@ -35,13 +34,13 @@ impl<'c> Model for Bases<'c> {
     ghost invariant = { AreBases };
 }
 
-// Where the window from a start of the same kind stands, if there is one.
-fn find_like(windows: &[Window], start: &Start) -> Option<usize>
+// Where the base of a start's kind stands, if there is one.
+fn find_base(windows: &[Window], start: &Start) -> Option<usize>
     ensures { IfSome result (λ i. i < length windows.now) }
 {
     windows
         .iter()
-        .position(|window| window.start().is_like(start))
+        .position(|window| window.start().is_base_of(start))
 }
 
 impl<'c> Bases<'c> {
@@ -99,7 +98,7 @@ impl<'c> Bases<'c> {
         ensures circuit { self.new.circuit ≡ self.old.circuit }
         ensures base { IfSome result (IsBase self.old.circuit) }
     {
-        let index = find_like(&self.windows, start)?;
+        let index = find_base(&self.windows, start)?;
         Some(self.windows.swap_remove(index))
     }
 
@@ -125,12 +124,14 @@ impl<'c> Bases<'c> {
         ensures circuit { self.new.circuit ≡ self.old.circuit }
         ensures base { IfOk result (IsBase self.old.circuit) }
         ensures few { IfOk result (λ w. frames ≤ w.window.frames) }
-        ensures start { IfOk result (λ w. IsStart self.old.circuit fault w.window.frames
-            (start_of start.now)) }
+        ensures start { IfOk result (λ w. IsStart self.old.circuit None frames w.window.start) }
     {
         match self.take(start) {
-            Some(base) if base.has_front(frames, start) => Ok(base),
-            _ => Window::planned(alloc, self.frame_plan.clone()?, fault, frames, start),
+            Some(base) if base.has_front(frames) => Ok(base),
+            _ => {
+                let start = start.base(alloc)?;
+                Window::planned(alloc, self.frame_plan.clone()?, None, frames, &start)
+            },
         }
     }
 
@@ -153,10 +154,8 @@ impl<'c> Bases<'c> {
         ensures decisions { IfOk result (λ w. w.decisions ≡ []) }
         ensures marks { IfOk result (λ w. w.marks ≡ []) }
     {
-        let base = self
-            .base(alloc, fault, frames, start)?
-            .turned(alloc, fault, start)?;
-        let window = base.front(alloc, self.frame_plan.clone()?, frames)?;
+        let base = self.base(alloc, fault, frames, start)?;
+        let window = base.turned(alloc, self.frame_plan.clone()?, fault, frames, start)?;
         self.keep(base)?;
         Ok(window)
     }

@@ -1,5 +1,5 @@
 //! What the next states of the latches of a cube show.
-ghost use Rattle.std.specs.Prelude.{◌≡◌};
+ghost use Rattle.std.specs.Prelude.{◌≡◌, None};
 ghost use Rattle.ht_pairs.specs.Pairs.{is_member, pair};
 ghost use Rattle.ht_tree.specs.Windows.{is_undetermined};
 ghost use Rattle.ht_tree.specs.WindowStatus.{cube_latches, is_definite};
@@ -87,7 +87,8 @@ impl CubeSeen {
 impl<'c> Window<'c> {
     /// What the latches of a cube show.
     pub fn see_cube(&self, cube: &[Tern]) -> CubeSeen
-        requires { self.now.window.frames ≡ 1 }
+        requires single { self.now.window.frames ≡ 1 }
+        requires whole { self.now.relevant ≡ None }
         ensures { result ≡ cube_seen_of self.now.window self.now.decisions cube.now
             (cube_latches self.now.window.circuit cube.now) }
     {

@@ -1,8 +1,9 @@
 //! The sets of a whole window, frame by frame.
-ghost use Rattle.std.specs.Prelude.{◌≡◌, ◌<◌, ◌≤◌, ◌+◌, ℕ, length, get_or, IfOk};
+ghost use Rattle.std.specs.Prelude.{◌≡◌, ◌<◌, ◌≤◌, ◌+◌, ℕ, None, length, get_or, IfOk};
 ghost use Rattle.ht_net.specs.Netlist.{net_count};
 ghost use Rattle.ht_tree.specs.Windows.{cell_at, first_latches, frame_inputs, latches_at};
 ghost use Rattle.ht_window.specs.Cells.{AreCells, blank, cell_count};
+ghost use Rattle.ht_window.specs.Matters.{is_relevant};
 
 use crate::decided::Decided;
 use ht_events::MAX_FRAMES;
@@ -74,7 +75,7 @@ pub fn all_sets(alloc: Global, decided: &Decided) -> Result<Vec<PairSet>, AllocE
     requires { decided.now.window.frames ≤ MAX_FRAMES }
     ensures count { IfOk result (λ sets. length sets.items ≡ cell_count decided.now.window) }
     ensures cells { IfOk result
-        (λ sets. AreCells decided.now.window decided.now.path sets.items) }
+        (λ sets. AreCells decided.now.window (is_relevant None) decided.now.path sets.items) }
 {
     let circuit = decided.circuit();
     let nets = circuit.nets() as usize;

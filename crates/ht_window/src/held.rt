@@ -1,5 +1,5 @@
 //! The decisions and the cells of a window.
-ghost use Rattle.std.specs.Prelude.{◌≡◌, IsTrue, ◌*◌, ◌<◌, ◌≤◌, ◌+◌, ◌++◌, ◌∷◌, ℕ, List, [], take, drop, set, length, get_or, IfOk, OnOk, OnErr};
+ghost use Rattle.std.specs.Prelude.{◌≡◌, IsTrue, None, Some, ◌*◌, ◌<◌, ◌≤◌, ◌+◌, ◌++◌, ◌∷◌, ℕ, List, [], take, drop, set, length, get_or, IfOk, OnOk, OnErr};
 ghost use Rattle.ht_tern.specs.declared.tern.Tern.TheVariants.{Unk};
 ghost use Rattle.ht_pairs.specs.Pairs.{Pair, pair};
 ghost use Rattle.ht_net.specs.Netlist.{net_count, first_gate_net};
@@ -8,12 +8,14 @@ ghost use Rattle.ht_trail.specs.Trails.{CellsState, IsLater, restored};
 ghost use Rattle.ht_tree.specs.Windows.{IsWindow, first_input, frame_inputs, pair_set_rules};
 ghost use Rattle.ht_window.specs.Standing.{variable_room};
 ghost use Rattle.ht_window.specs.Cells.{cell_index, cell_count, env_at, latches_over, value_over, var_frame, var_net, HoldsValue};
+ghost use Rattle.ht_window.specs.Matters.{is_relevant};
 ghost use Rattle.ht_window.specs.Holding.{HeldState};
 
 use crate::decided::Decided;
 use ht_events::{MAX_FRAMES, Plant};
 use ht_frame::{MAX_GATE_PINS, data_pin, gate_output, stem};
 use ht_pairs::PairSet;
+use ht_relevant::Relevant;
 use ht_tern::Tern;
 use ht_trail::{Cells, Mark};
 use std::alloc::{AllocError, Global};
@@ -24,6 +26,8 @@ use std::marker::Model;
 pub struct Held<'c> {
     decided: Decided<'c>,
     cells: Cells<PairSet>,
+    // the nets that matter; none: all do
+    relevant: Option<Relevant>,
     // room for the pins of one gate
     pins: Vec<PairSet>,
 }
@@ -35,7 +39,11 @@ impl<'c> Model for Held<'c> {
 
     ghost use Rattle.ht_window.specs.Holding.{IsHeld};
 
-    ghost view = { λ a. record { standing = a.decided; cells = a.cells } };
+    ghost view = { λ a. record {
+      standing = a.decided;
+      cells = a.cells;
+      relevant = a.relevant;
+    } };
 
     ghost invariant = { IsHeld };
 }
@@ -55,6 +63,7 @@ impl<'c> Held<'c> {
         ensures standing { IfOk result (λ h. h.standing ≡ decided.entry) }
         ensures values { IfOk result (λ h. h.cells.values ≡ sets.items) }
         ensures trail { IfOk result (λ h. h.cells.trail ≡ []) }
+        ensures whole { IfOk result (λ h. h.relevant ≡ None) }
     {
         let circuit = decided.circuit();
         // for the proof: the circuit is well formed
@@ -63,6 +72,7 @@ impl<'c> Held<'c> {
         Ok(Held {
             decided,
             cells: Cells::from_values(alloc, sets)?,
+            relevant: None,
             pins,
         })
     }
@@ -95,6 +105,27 @@ impl<'c> Held<'c> {
     {
         let nets = self.decided.circuit().nets();
         frame * nets + net
+    }
+
+    /// Whether a net of a frame matters.
+    #[inline(always)]
+    pub fn matters(&self, frame: u32, net: u32) -> bool
+        requires { frame < self.now.standing.window.frames }
+        ensures { result ≡ is_relevant self.now.relevant frame net }
+    {
+        match &self.relevant {
+            Some(relevant) => relevant.has(frame, net),
+            None => true,
+        }
+    }
+
+    /// From now on only these nets matter.
+    pub fn restrict(&mut self, relevant: Relevant)
+        ensures standing { self.new.standing ≡ self.old.standing }
+        ensures cells { self.new.cells ≡ self.old.cells }
+        ensures relevant { self.new.relevant ≡ Some relevant }
+    {
+        self.relevant = Some(relevant);
     }
 
     /// What a net of a frame holds.
@@ -180,6 +211,7 @@ impl<'c> Held<'c> {
         requires frame { frame < self.old.standing.window.frames }
         requires net { net < net_count self.old.standing.window.circuit }
         ensures standing { self.new.standing ≡ self.old.standing }
+        ensures relevant { self.new.relevant ≡ self.old.relevant }
         ensures later { IsLater self.old.cells self.new.cells }
         ensures values { OnOk result
             (self.new.cells.values
@@ -203,6 +235,7 @@ impl<'c> Held<'c> {
         ensures window { IsWindow self.old.standing.window }
         ensures count { length self.old.cells.values ≡ cell_count self.old.standing.window }
         ensures standing { self.new.standing ≡ self.old.standing }
+        ensures relevant { self.new.relevant ≡ self.old.relevant }
         ensures later { IsLater self.old.cells self.new.cells }
         ensures values { OnOk result
             (self.new.cells.values
@@ -245,21 +278,10 @@ impl<'c> Held<'c> {
         Vec::from_slice(alloc, &self.cells.values()[..count])
     }
 
-    /// The same cells under another window with as many, or other decisions.
-    pub fn turn(&mut self, decided: Decided<'c>)
-        requires circuit { decided.window.circuit ≡ self.old.standing.window.circuit }
-        requires frames { decided.window.frames ≡ self.old.standing.window.frames }
-        ensures standing { self.new.standing ≡ decided.entry }
-        ensures cells { self.new.cells ≡ self.old.cells }
-    {
-        // for the proof: the other window is well formed
-        let _ = decided.circuit();
-        self.decided = decided;
-    }
-
     /// Forgets what the cells held before.
     pub fn forget(&mut self)
         ensures standing { self.new.standing ≡ self.old.standing }
+        ensures relevant { self.new.relevant ≡ self.old.relevant }
         ensures values { self.new.cells.values ≡ self.old.cells.values }
     {
         self.cells.forget();
@@ -290,6 +312,7 @@ impl<'c> Held<'c> {
     pub fn push(&mut self, var: u32, value: Tern) -> Result<(), AllocError>
         requires { var < variable_room self.old.standing.window }
         ensures window { self.new.standing.window ≡ self.old.standing.window }
+        ensures relevant { self.new.relevant ≡ self.old.relevant }
         ensures cells { self.new.cells ≡ self.old.cells }
         ensures ok { OnOk result (self.new.standing.path ≡ self.old.standing.path
             ++ record { var = var; value = value } ∷ []) }
@@ -304,6 +327,7 @@ impl<'c> Held<'c> {
         requires mark { mark.0 ≤ length self.old.cells.trail }
         ensures window { self.new.standing.window ≡ self.old.standing.window }
         ensures path { self.new.standing.path ≡ take count self.old.standing.path }
+        ensures relevant { self.new.relevant ≡ self.old.relevant }
         ensures values { self.new.cells.values ≡ restored self.old.cells.values
             (drop mark.0 self.old.cells.trail) }
         ensures trail { self.new.cells.trail ≡ take mark.0 self.old.cells.trail }
@@ -335,6 +359,9 @@ impl<'c> Plant for Held<'c> {
     #[inline(always)]
     fn recompute(&mut self, frame: u32, local: u32) -> Result<bool, AllocError> {
         let net = self.decided().inputs() + local;
+        if !self.matters(frame, net) {
+            return Ok(false);
+        }
         let value = self.evaluate(frame, net);
         if self.cell(frame, net) == value {
             return Ok(false);

@@ -14,6 +14,7 @@
 //! | held | the decisions and the cells: the plant of the events |
 //! | window | `decide`, `mark`, `undo`, `cell`, `next_state` |
 //! | turn, base, bases | windows before their first decision, one made from another by events |
+//! | restrict | which nets matter to a window of a fault: their cells alone are kept |
 //! | places, cube, status | what the places and the latches of a cube show; `status`, `pick` |
 //! | back | `walk_back` |
 //! | trial, vectors | a window in which a difference is searched for: `explore` from its root, and the vectors read off |
@@ -30,6 +31,7 @@ mod decided;
 mod frames;
 mod held;
 mod places;
+mod restrict;
 mod sets;
 mod start;
 mod status;

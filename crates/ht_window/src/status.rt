@@ -1,5 +1,5 @@
 //! The status of a window, and the choice of the next variable.
-ghost use Rattle.std.specs.Prelude.{◌≡◌, ◌<◌, ℕ, Some, length};
+ghost use Rattle.std.specs.Prelude.{◌≡◌, ◌<◌, ℕ, true, Some, None, IfSome, length};
 ghost use Rattle.ht_net.specs.Netlist.{net_count};
 ghost use Rattle.ht_tree.specs.declared.window.WindowPlace.{WindowPlace};
 ghost use Rattle.ht_tree.specs.declared.window.Spot.TheVariants.{Output, State};
@@ -8,6 +8,7 @@ ghost use Rattle.ht_tree.specs.Places.{IsSpot, spot_net};
 ghost use Rattle.ht_tree.specs.WindowStatus.{difference_status, status_at};
 ghost use Rattle.ht_tree.specs.Variables.{IsLegalChoice};
 ghost use Rattle.ht_tree.specs.WalkBack.{CanWalk, from_latch, from_place, pick_of};
+ghost use Rattle.ht_window.specs.Matters.{is_relevant};
 
 use crate::decided::value_at;
 use crate::places::Look;
@@ -22,7 +23,7 @@ impl<'c> Window<'c> {
     pub fn status(&self) -> Status
         ensures { result ≡ status_at self.now.window self.now.decisions }
     {
-        // for the proof: the window is well formed
+        // for the proof: the window is well formed, and in that of a cube all nets matter
         let _ = self.circuit();
         match self.start() {
             Start::Back { cube, limit } => self.see_cube(cube.as_slice()).status(*limit),
@@ -66,7 +67,7 @@ impl<'c> Window<'c> {
         requires { status_at self.now.window self.now.decisions ≡ Open }
         ensures { result ≡ pick_of self.now.window self.now.decisions }
     {
-        // for the proof: the window is well formed
+        // for the proof: the window is well formed, and in that of a cube all nets matter
         let _ = self.circuit();
         match self.start() {
             Start::Back { cube, limit: _ } => self.from_latch(
@@ -81,9 +82,12 @@ impl<'c> Window<'c> {
 
     // The walk back from a place that may differ.
     fn from_place(&self, place: Option<WindowPlace>) -> Choice
-        requires { (p : WindowPlace) → place ≡ Some p → CanWalk self.now.window self.now.decisions
+        requires walks { (p : WindowPlace) → place ≡ Some p
+            → CanWalk self.now.window self.now.decisions
             p.frame (spot_net self.now.window.circuit p.spot) × IsSpot self.now.window.circuit
             p.spot }
+        requires matters { IfSome place (λ p. is_relevant self.now.relevant p.frame
+            (spot_net self.now.window.circuit p.spot) ≡ true) }
         ensures { result ≡ from_place self.now.window self.now.decisions place }
     {
         match place {
@@ -97,7 +101,8 @@ impl<'c> Window<'c> {
 
     // The walk back from the data pin of a latch of a cube.
     fn from_latch(&self, cube: &[Tern], latch: Option<u32>) -> Choice
-        requires { (j : ℕ) → latch ≡ Some j → (j < length self.now.window.circuit.dffs)
+        requires whole { self.now.relevant ≡ None }
+        requires walks { (j : ℕ) → latch ≡ Some j → (j < length self.now.window.circuit.dffs)
             × CanWalk self.now.window self.now.decisions 0
             (spot_net self.now.window.circuit (State j)) }
         ensures { result ≡ from_latch self.now.window self.now.decisions cube.now latch }

@@ -1,8 +1,11 @@
 //! Cells that follow another fault and another start by events.
 ghost use Rattle.std.specs.Prelude.{◌≡◌, ◌<◌, ◌≤◌, ◌+◌, ℕ, true, Some, OnOk, IfSome};
 ghost use Rattle.ht_net.specs.Netlist.{net_count, first_gate_net};
+ghost use Rattle.ht_relevant.specs.Reached.{begins_at, leads_to};
+ghost use Rattle.ht_relevant.specs.Relevant.{IsClosedBack};
 ghost use Rattle.ht_window.specs.Cells.{AreCells};
-ghost use Rattle.ht_window.specs.Turns.{HoldsElsewhere, HoldsOrPends, IsRenewed, is_line_of, is_reached};
+ghost use Rattle.ht_window.specs.Matters.{is_relevant};
+ghost use Rattle.ht_window.specs.Turns.{HoldsElsewhere, HoldsOrPends, IsRenewed};
 
 use crate::held::Held;
 use ht_events::Core;
@@ -12,7 +15,7 @@ use std::alloc::AllocError;
 // The net whose stem a line is, or whose driver has it for a pin; none where the circuit has no such line.
 fn line_net(circuit: &Circuit, site: Site) -> Option<u32>
     ensures inside { IfSome result (λ x. x < net_count circuit.now) }
-    ensures only { (x : ℕ) → x < net_count circuit.now → is_line_of circuit.now site x ≡ true
+    ensures only { (x : ℕ) → x < net_count circuit.now → leads_to circuit.now site x ≡ true
         → result ≡ Some x }
 {
     // for the proof: the circuit is well formed
@@ -30,7 +33,7 @@ fn line_net(circuit: &Circuit, site: Site) -> Option<u32>
 // The first net that a fault reaches.
 fn first_reached(circuit: &Circuit, fault: Option<Fault>) -> Option<u32>
     ensures inside { IfSome result (λ x. x < net_count circuit.now) }
-    ensures only { (x : ℕ) → x < net_count circuit.now → is_reached circuit.now fault x ≡ true
+    ensures only { (x : ℕ) → x < net_count circuit.now → begins_at circuit.now fault x ≡ true
         → result ≡ Some x }
 {
     match fault {
@@ -39,7 +42,7 @@ fn first_reached(circuit: &Circuit, fault: Option<Fault>) -> Option<u32>
     }
 }
 
-// Gives a net of a frame its set, and makes what reads it pending where that is another.
+// Gives a net of a frame its set, if it matters, and makes what reads it pending where that is another.
 fn renew(held: &mut Held, core: &mut Core, frame: u32, net: u32) -> Result<(), AllocError>
     requires circuit { core.old.plan.circuit ≡ held.old.standing.window.circuit }
     requires frames { core.old.plan.frames ≡ held.old.standing.window.frames }
@@ -48,6 +51,9 @@ fn renew(held: &mut Held, core: &mut Core, frame: u32, net: u32) -> Result<(), A
     ensures renewed { OnOk result (IsRenewed core.old held.old core.new held.new) }
     ensures holds { OnOk result (HoldsOrPends core.new held.new frame net) }
 {
+    if !held.matters(frame, net) {
+        return Ok(());
+    }
     if held.holds_value(frame, net) {
         return Ok(());
     }
@@ -63,7 +69,7 @@ fn renew_line(held: &mut Held, core: &mut Core, fault: Option<Fault>) -> Result<
     ensures renewed { OnOk result (IsRenewed core.old held.old core.new held.new) }
     ensures holds { OnOk result ((f x : ℕ) → f < held.old.standing.window.frames
         → x < net_count held.old.standing.window.circuit
-        → is_reached held.old.standing.window.circuit fault x ≡ true
+        → begins_at held.old.standing.window.circuit fault x ≡ true
         → HoldsOrPends core.new held.new f x) }
 {
     let decided = held.decided();
@@ -97,26 +103,23 @@ fn renew_latches(held: &mut Held, core: &mut Core) -> Result<(), AllocError>
     Ok(())
 }
 
-/// Lets cells follow, by events, where they were those of the same window but with the fault `before` and another
-/// start.
+/// Lets cells follow, by events, where they were those of the same window but without a fault and from another start.
 ///
 /// # Errors
 /// Out of memory.
-pub fn follow_turn(
-    held: &mut Held,
-    core: &mut Core,
-    before: Option<Fault>,
-) -> Result<(), AllocError>
+pub fn follow_turn(held: &mut Held, core: &mut Core) -> Result<(), AllocError>
     requires circuit { core.old.plan.circuit ≡ held.old.standing.window.circuit }
     requires frames { core.old.plan.frames ≡ held.old.standing.window.frames }
-    requires holds { HoldsElsewhere held.old before }
+    requires closed { IsClosedBack held.old.standing.window.circuit
+        held.old.standing.window.frames (is_relevant held.old.relevant) }
+    requires holds { HoldsElsewhere held.old }
     ensures plan { OnOk result (core.new.plan ≡ core.old.plan) }
     ensures standing { OnOk result (held.new.standing ≡ held.old.standing) }
-    ensures cells { OnOk result (AreCells held.old.standing.window held.old.standing.path
-        held.new.cells.values) }
+    ensures relevant { OnOk result (held.new.relevant ≡ held.old.relevant) }
+    ensures cells { OnOk result (AreCells held.old.standing.window
+        (is_relevant held.old.relevant) held.old.standing.path held.new.cells.values) }
 {
     let fault = held.decided().fault();
-    renew_line(held, core, before)?;
     renew_line(held, core, fault)?;
     renew_latches(held, core)?;
     core.settle(held)?;

@@ -1,14 +1,18 @@
 //! A window under the decisions that stand.
-ghost use Rattle.std.specs.Prelude.{◌≡◌, ◌<◌, ◌≤◌, ◌+◌, ◌++◌, ◌∷◌, ℕ, [], length, get_or, take, false, IfOk, OnOk, OnErr};
+ghost use Rattle.std.specs.Prelude.{◌≡◌, ◌<◌, ◌≤◌, ◌+◌, ◌++◌, ◌∷◌, ℕ, ◌-◌, [], length, get_or, take, true, false, None, IfOk, OnOk, OnErr};
 ghost use Rattle.ht_tern.specs.declared.tern.Tern.TheVariants.{Unk};
 ghost use Rattle.ht_pairs.specs.Pairs.{Pair, pair};
 ghost use Rattle.ht_net.specs.Netlist.{net_count};
 ghost use Rattle.ht_trail.specs.Trails.{CellsState, IsLater};
 ghost use Rattle.ht_tree.specs.Decisions.{decided_value};
 ghost use Rattle.ht_tree.specs.Windows.{IsStart, IsWindow, cell_at, first_input, latches_at};
+ghost use Rattle.ht_tree.specs.declared.window.Spot.TheVariants.{State};
+ghost use Rattle.ht_tree.specs.Places.{spot_net};
 ghost use Rattle.ht_tree.specs.Walks.{decides};
+ghost use Rattle.ht_relevant.specs.Relevant.{IsClosedBack, IsRelevant};
 ghost use Rattle.ht_window.specs.Starts.{start_of, window_from};
 ghost use Rattle.ht_window.specs.Cells.{AreCells};
+ghost use Rattle.ht_window.specs.Matters.{is_relevant};
 ghost use Rattle.ht_window.specs.Holding.{HeldState};
 ghost use Rattle.ht_window.specs.States.{IsLegalDecision, WindowState, mark_before, undone};
 
@@ -50,18 +54,22 @@ fn follow(held: &mut Held, core: &mut Core, var: u32, choice: Tern) -> Result<()
     requires circuit { core.old.plan.circuit ≡ held.old.standing.window.circuit }
     requires frames { core.old.plan.frames ≡ held.old.standing.window.frames }
     requires legal { IsLegalDecision held.old.standing.window var choice }
-    requires cells { AreCells held.old.standing.window held.old.standing.path
-        held.old.cells.values }
+    requires closed { IsClosedBack held.old.standing.window.circuit
+        held.old.standing.window.frames (is_relevant held.old.relevant) }
+    requires cells { AreCells held.old.standing.window (is_relevant held.old.relevant)
+        held.old.standing.path held.old.cells.values }
     ensures plan { core.new.plan ≡ core.old.plan }
     ensures window { held.new.standing.window ≡ held.old.standing.window }
     ensures path { OnOk result (held.new.standing.path ≡ held.old.standing.path
         ++ record { var = var; value = choice } ∷ []) }
     ensures before { take (length held.old.standing.path) held.new.standing.path
         ≡ held.old.standing.path }
+    ensures relevant { held.new.relevant ≡ held.old.relevant }
     ensures later { IsLater held.old.cells held.new.cells }
     ensures trail { OnOk result (length held.old.cells.trail < length held.new.cells.trail) }
     ensures cells { OnOk result
-        (AreCells held.old.standing.window held.new.standing.path held.new.cells.values) }
+        (AreCells held.old.standing.window (is_relevant held.old.relevant)
+        held.new.standing.path held.new.cells.values) }
 {
     // for the proof: the window is well formed
     let _ = held.decided();
@@ -74,7 +82,8 @@ fn follow(held: &mut Held, core: &mut Core, var: u32, choice: Tern) -> Result<()
 }
 
 impl<'c> Window<'c> {
-    /// A window of `frames` frames from a start, before its first decision. All room for its cells is taken here.
+    /// A window of `frames` frames from a start, before its first decision, in which all nets matter. All room for its
+    /// cells is taken here.
     ///
     /// # Errors
     /// Out of memory.
@@ -91,6 +100,7 @@ impl<'c> Window<'c> {
             ≡ window_from circuit.now fault frames start.now) }
         ensures decisions { IfOk result (λ w. w.decisions ≡ []) }
         ensures marks { IfOk result (λ w. w.marks ≡ []) }
+        ensures whole { IfOk result (λ w. w.relevant ≡ None) }
     {
         let frame_plan = Rc::new(alloc, FramePlan::new(alloc, circuit)?)?;
         Window::planned(alloc, frame_plan, fault, frames, start)
@@ -105,6 +115,7 @@ impl<'c> Window<'c> {
         requires legal { IsLegalDecision self.old.window var choice }
         requires undecided { decides self.old.decisions var ≡ false }
         ensures window { self.new.window ≡ self.old.window }
+        ensures relevant { self.new.relevant ≡ self.old.relevant }
         ensures ok { OnOk result
             (self.new.decisions ≡ self.old.decisions ++ record { var = var; value = choice } ∷ []) }
         ensures marks { OnOk result (self.new.marks ≡ self.old.marks ++ self.old.mark ∷ []) }
@@ -183,10 +194,11 @@ impl<'c> Window<'c> {
         0
     }
 
-    /// The window's circuit.
+    /// The window's circuit. In a window of the good machine all nets matter.
     pub fn circuit(&self) -> &'c Circuit
         ensures circuit { result.now ≡ self.now.window.circuit }
         ensures valid { IsWindow self.now.window }
+        ensures whole { self.now.window.fault ≡ None → self.now.relevant ≡ None }
     {
         let decided = self.held.decided();
         decided.circuit()
@@ -237,18 +249,38 @@ impl<'c> Window<'c> {
         self.held.decided().input_var(frame, i)
     }
 
-    /// The set of a net in a frame.
+    // Whether a net of a frame matters.
+    #[inline(always)]
+    pub(crate) fn matters(&self, frame: u32, net: NetId) -> bool
+        requires { frame < self.now.window.frames }
+        ensures { result ≡ is_relevant self.now.relevant frame net.0 }
+    {
+        self.held.matters(frame, net.0)
+    }
+
+    // For proofs: the nets that matter are relevant to the window.
+    #[inline(always)]
+    pub(crate) fn relevance(&self)
+        ensures { IsRelevant self.now.window (is_relevant self.now.relevant) }
+    {
+        let _ = &self.held;
+    }
+
+    /// The set of a net in a frame, where it matters.
     pub fn cell(&self, frame: u32, net: NetId) -> PairSet
         requires frame { frame < self.now.window.frames }
         requires net { net.0 < net_count self.now.window.circuit }
+        requires matters { is_relevant self.now.relevant frame net.0 ≡ true }
         ensures { result ≡ cell_at self.now.window self.now.decisions frame net.0 }
     {
         self.held.cell(frame, net.0)
     }
 
-    /// The next state of a latch after the last frame.
+    /// The next state of a latch after the last frame, where its data net matters there.
     pub fn next_state(&self, j: u32) -> PairSet
-        requires { j < length self.now.window.circuit.dffs }
+        requires dff { j < length self.now.window.circuit.dffs }
+        requires matters { is_relevant self.now.relevant (self.now.window.frames - 1)
+            (spot_net self.now.window.circuit (State j)) ≡ true }
         ensures { result ≡ get_or
             (latches_at self.now.window self.now.decisions self.now.window.frames) j
             (pair Unk Unk ∷ []) }

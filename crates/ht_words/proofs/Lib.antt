@@ -1,2 +1,2 @@
-mod DefinitionLaws
+mod ArgumentLaws
 mod NumberLaws

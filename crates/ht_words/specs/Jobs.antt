@@ -31,10 +31,13 @@ options_in rows = options_with
     (first_of (codes "first") rows) (first_of (codes "faults") rows)
     (random_of (first_of (codes "weighted") rows)) (deep_of (first_of (codes "search") rows))
 
+-- the values of these arguments in the rows, if none is missing
+abbrev pub values_in : List Text → List Row → Option (List Text)
+values_in ids rows = all_of (map (λ id. first_of id rows) ids)
+
 -- the names of the files of a run in the rows, if none is missing
 abbrev pub files_in : List Row → Option (List Text)
-files_in rows = all_of (map (λ id. first_of id rows)
-    (codes "netlist" ∷ codes "tests" ∷ codes "report" ∷ codes "proofs" ∷ []))
+files_in rows = values_in (codes "netlist" ∷ codes "tests" ∷ codes "report" ∷ codes "proofs" ∷ []) rows
 
 -- what words ask for where they ask for the job
 abbrev pub asked_by : Job → Asked

@@ -4,9 +4,10 @@ ghost use Rattle.std.specs.Prelude.{option_and_then, true};
 ghost use Rattle.clap.specs.Words.{app_of, first_of, found_of, is_simple_and_free, matches_of, rows_of};
 ghost use Rattle.ht_asked.specs.Asked.{asked, check_command, command_named, gen_command, sim_command, words_of};
 ghost use Rattle.ht_asked.specs.Asked.{deep_of, demo_with, report_command, respond_command, seed_in, size_in};
-ghost use Rattle.ht_asked.specs.Asked.{sync_command, uninit_command};
+ghost use Rattle.ht_asked.specs.Asked.{compact_command, diagnose_command, norm_command, sync_command};
+ghost use Rattle.ht_asked.specs.Asked.{uninit_command};
 ghost use Rattle.ht_asked.specs.ByClap.{asked_by_clap, asked_in_rows, is_taken};
-ghost use Rattle.ht_words.specs.Jobs.{IsAnswer, files_in, options_by, options_in};
+ghost use Rattle.ht_words.specs.Jobs.{IsAnswer, files_in, options_by, options_in, values_in};
 ghost use Rattle.ht_words.specs.declared.job.WordsFault.TheVariants as fault;
 
 use crate::definitions::definition;
@@ -66,22 +67,10 @@ fn job(alloc: Global, word: &str, matches: &ArgMatches<'_>) -> Result<Job, Words
         "sim" => sim_job(alloc, matches),
         "gen" => gen_job(alloc, matches),
         "check" => check_job(alloc, matches),
-        "norm" => Ok(Job::Norm {
-            netlist: value(alloc, matches, "netlist")?,
-            out: value(alloc, matches, "out")?,
-        }),
+        "norm" => norm_job(alloc, matches),
         "demo" => demo_job(matches),
-        "compact" => Ok(Job::Compact {
-            netlist: value(alloc, matches, "netlist")?,
-            tests: value(alloc, matches, "tests")?,
-            out: value(alloc, matches, "out")?,
-        }),
-        "diagnose" => Ok(Job::Diagnose {
-            netlist: value(alloc, matches, "netlist")?,
-            tests: value(alloc, matches, "tests")?,
-            responses: value(alloc, matches, "responses")?,
-            out: value(alloc, matches, "out")?,
-        }),
+        "compact" => compact_job(alloc, matches),
+        "diagnose" => diagnose_job(alloc, matches),
         "uninit" => uninit_job(alloc, matches),
         "sync" => sync_job(alloc, matches),
         "respond" => respond_job(alloc, matches),
@@ -94,11 +83,13 @@ fn job(alloc: Global, word: &str, matches: &ArgMatches<'_>) -> Result<Job, Words
 fn sim_job(alloc: Global, matches: &ArgMatches<'_>) -> Result<Job, WordsFault>
     ensures { IsAnswer (asked_in_rows sim_command (rows_of (found_of matches.now))) result }
 {
+    let start = optional_value(alloc, matches, "start")?;
+    let (netlist, tests, report) = three_values(alloc, matches, "netlist", "tests", "report")?;
     Ok(Job::Sim {
-        netlist: value(alloc, matches, "netlist")?,
-        tests: value(alloc, matches, "tests")?,
-        report: value(alloc, matches, "report")?,
-        start: optional_value(alloc, matches, "start")?,
+        netlist,
+        tests,
+        report,
+        start,
     })
 }
 
@@ -108,11 +99,14 @@ fn run_files(alloc: Global, matches: &ArgMatches<'_>) -> Result<RunFiles, WordsF
     ensures ok { IfOk result (λ files. files_in (rows_of (found_of matches.now))
         ≡ Some (files.netlist ∷ files.tests ∷ files.report ∷ files.proofs ∷ [])) }
 {
+    let (netlist, tests, report, proofs) = four_values(
+        alloc, matches, "netlist", "tests", "report", "proofs",
+    )?;
     Ok(RunFiles {
-        netlist: value(alloc, matches, "netlist")?,
-        tests: value(alloc, matches, "tests")?,
-        report: value(alloc, matches, "report")?,
-        proofs: value(alloc, matches, "proofs")?,
+        netlist,
+        tests,
+        report,
+        proofs,
     })
 }
 
@@ -157,6 +151,14 @@ fn check_job(alloc: Global, matches: &ArgMatches<'_>) -> Result<Job, WordsFault>
     Ok(Job::Check { files, start })
 }
 
+/// The job of `norm`.
+fn norm_job(alloc: Global, matches: &ArgMatches<'_>) -> Result<Job, WordsFault>
+    ensures { IsAnswer (asked_in_rows norm_command (rows_of (found_of matches.now))) result }
+{
+    let (netlist, out) = two_values(alloc, matches, "netlist", "out")?;
+    Ok(Job::Norm { netlist, out })
+}
+
 /// The job of `demo`.
 fn demo_job(matches: &ArgMatches<'_>) -> Result<Job, WordsFault>
     ensures { IsAnswer (demo_with
@@ -170,14 +172,48 @@ fn demo_job(matches: &ArgMatches<'_>) -> Result<Job, WordsFault>
     })
 }
 
+/// The job of `compact`.
+fn compact_job(alloc: Global, matches: &ArgMatches<'_>) -> Result<Job, WordsFault>
+    ensures { IsAnswer (asked_in_rows compact_command (rows_of (found_of matches.now))) result }
+{
+    let (netlist, tests, out) = three_values(alloc, matches, "netlist", "tests", "out")?;
+    Ok(Job::Compact {
+        netlist,
+        tests,
+        out,
+    })
+}
+
+/// The job of `diagnose`.
+fn diagnose_job(alloc: Global, matches: &ArgMatches<'_>) -> Result<Job, WordsFault>
+    ensures { IsAnswer (asked_in_rows diagnose_command (rows_of (found_of matches.now))) result }
+{
+    let (netlist, tests, responses, out) = four_values(
+        alloc,
+        matches,
+        "netlist",
+        "tests",
+        "responses",
+        "out",
+    )?;
+    Ok(Job::Diagnose {
+        netlist,
+        tests,
+        responses,
+        out,
+    })
+}
+
 /// The job of `uninit`.
 fn uninit_job(alloc: Global, matches: &ArgMatches<'_>) -> Result<Job, WordsFault>
     ensures { IsAnswer (asked_in_rows uninit_command (rows_of (found_of matches.now))) result }
 {
+    let budget = budget(matches)?;
+    let (netlist, out) = two_values(alloc, matches, "netlist", "out")?;
     Ok(Job::Uninit {
-        netlist: value(alloc, matches, "netlist")?,
-        out: value(alloc, matches, "out")?,
-        budget: budget(matches)?,
+        netlist,
+        out,
+        budget,
     })
 }
 
@@ -185,11 +221,13 @@ fn uninit_job(alloc: Global, matches: &ArgMatches<'_>) -> Result<Job, WordsFault
 fn sync_job(alloc: Global, matches: &ArgMatches<'_>) -> Result<Job, WordsFault>
     ensures { IsAnswer (asked_in_rows sync_command (rows_of (found_of matches.now))) result }
 {
+    let budget = budget(matches)?;
+    let (netlist, tests, out) = three_values(alloc, matches, "netlist", "tests", "out")?;
     Ok(Job::Sync {
-        netlist: value(alloc, matches, "netlist")?,
-        tests: value(alloc, matches, "tests")?,
-        out: value(alloc, matches, "out")?,
-        budget: budget(matches)?,
+        netlist,
+        tests,
+        out,
+        budget,
     })
 }
 
@@ -197,12 +235,15 @@ fn sync_job(alloc: Global, matches: &ArgMatches<'_>) -> Result<Job, WordsFault>
 fn respond_job(alloc: Global, matches: &ArgMatches<'_>) -> Result<Job, WordsFault>
     ensures { IsAnswer (asked_in_rows respond_command (rows_of (found_of matches.now))) result }
 {
+    let fault = fault_number(matches)?;
+    let start = optional_value(alloc, matches, "start")?;
+    let (netlist, tests, out) = three_values(alloc, matches, "netlist", "tests", "out")?;
     Ok(Job::Respond {
-        netlist: value(alloc, matches, "netlist")?,
-        tests: value(alloc, matches, "tests")?,
-        out: value(alloc, matches, "out")?,
-        fault: fault_number(matches)?,
-        start: optional_value(alloc, matches, "start")?,
+        netlist,
+        tests,
+        out,
+        fault,
+        start,
     })
 }
 
@@ -210,15 +251,21 @@ fn respond_job(alloc: Global, matches: &ArgMatches<'_>) -> Result<Job, WordsFaul
 fn report_job(alloc: Global, matches: &ArgMatches<'_>) -> Result<Job, WordsFault>
     ensures { IsAnswer (asked_in_rows report_command (rows_of (found_of matches.now))) result }
 {
+    let budget = budget(matches)?;
+    let start = optional_value(alloc, matches, "start")?;
+    let (netlist, tests, proofs, report) = four_values(
+        alloc, matches, "netlist", "tests", "proofs", "report",
+    )?;
+    let files = RunFiles {
+        netlist,
+        tests,
+        report,
+        proofs,
+    };
     Ok(Job::Report {
-        files: RunFiles {
-            netlist: value(alloc, matches, "netlist")?,
-            tests: value(alloc, matches, "tests")?,
-            report: value(alloc, matches, "report")?,
-            proofs: value(alloc, matches, "proofs")?,
-        },
-        budget: budget(matches)?,
-        start: optional_value(alloc, matches, "start")?,
+        files,
+        budget,
+        start,
     })
 }
 
@@ -265,4 +312,63 @@ fn optional_value(
         Some(text) => Ok(Some(FileName::new(String::from_str(alloc, text)?))),
         None => Ok(None),
     }
+}
+
+/// The values of two arguments that have to be there.
+fn two_values(
+    alloc: Global,
+    matches: &ArgMatches<'_>,
+    first: &str,
+    second: &str,
+) -> Result<(FileName, FileName), WordsFault>
+    ensures usage { result ≡ Err fault.Usage →
+        values_in (first.now ∷ second.now ∷ []) (rows_of (found_of matches.now)) ≡ None }
+    ensures ok { IfOk result (λ v.
+        values_in (first.now ∷ second.now ∷ []) (rows_of (found_of matches.now))
+        ≡ Some (v.0 ∷ v.1 ∷ [])) }
+{
+    let first = value(alloc, matches, first)?;
+    let second = value(alloc, matches, second)?;
+    Ok((first, second))
+}
+
+/// The values of three arguments that have to be there.
+fn three_values(
+    alloc: Global,
+    matches: &ArgMatches<'_>,
+    first: &str,
+    second: &str,
+    third: &str,
+) -> Result<(FileName, FileName, FileName), WordsFault>
+    ensures usage { result ≡ Err fault.Usage →
+        values_in (first.now ∷ second.now ∷ third.now ∷ []) (rows_of (found_of matches.now))
+        ≡ None }
+    ensures ok { IfOk result (λ v.
+        values_in (first.now ∷ second.now ∷ third.now ∷ []) (rows_of (found_of matches.now))
+        ≡ Some (v.0 ∷ v.1 ∷ v.2 ∷ [])) }
+{
+    let first = value(alloc, matches, first)?;
+    let (second, third) = two_values(alloc, matches, second, third)?;
+    Ok((first, second, third))
+}
+
+/// The values of four arguments that have to be there.
+fn four_values(
+    alloc: Global,
+    matches: &ArgMatches<'_>,
+    first: &str,
+    second: &str,
+    third: &str,
+    fourth: &str,
+) -> Result<(FileName, FileName, FileName, FileName), WordsFault>
+    ensures usage { result ≡ Err fault.Usage →
+        values_in (first.now ∷ second.now ∷ third.now ∷ fourth.now ∷ [])
+        (rows_of (found_of matches.now)) ≡ None }
+    ensures ok { IfOk result (λ v.
+        values_in (first.now ∷ second.now ∷ third.now ∷ fourth.now ∷ [])
+        (rows_of (found_of matches.now)) ≡ Some (v.0 ∷ v.1 ∷ v.2 ∷ v.3 ∷ [])) }
+{
+    let first = value(alloc, matches, first)?;
+    let (second, third, fourth) = three_values(alloc, matches, second, third, fourth)?;
+    Ok((first, second, third, fourth))
 }

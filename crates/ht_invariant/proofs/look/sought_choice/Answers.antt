@@ -4,8 +4,8 @@ use Rattle.ht_invariant.specs.Trials.{knows, knows_sought}
 use Rattle.ht_invariant.proofs.LookLaws.{found_walks}
 use Rattle.ht_invariant.proofs.look.sought_choice.Goals as goal
 
-pub back_from-requires : goal.back_from-requires
-back_from-requires c =
+pub back_from-requires-clause-walks : goal.back_from-requires-clause-walks
+back_from-requires-clause-walks c =
     let s = c.args.window.now in
     let known : knows s.window.circuit (c.in-Breach.first ∷ second_of c.in-Breach.second) ≡ true =
     ap (knows_sought s.window.circuit) (sym c.in-Breach.is) ∙ c.requires.known in

@@ -1,14 +1,16 @@
-use Rattle.std.proofs.Common.{◌<◌, length, sym, ◌∙◌, ap, subst, List, get_or}
-use Rattle.ht_net.specs.declared.fault.Fault.{Fault}
-use Rattle.ht_faults.specs.FaultList.{no_fault}
-use Rattle.ht_texts.specs.Sites.{IsSite}
-use Rattle.ht_texts.proofs.SiteLaws.{fault_is_on_line}
+use Rattle.std.proofs.Common.{◌++◌, ◌∙◌, List, ℕ, ap}
+use Rattle.std.specs.Prelude.{codes}
+use Rattle.ht_texts.specs.Pieces.{add_pieces}
+use Rattle.ht_texts.specs.Reports.{line_front, outcome_pieces}
+use Rattle.ht_texts.proofs.PieceLaws.{added_both, line_added}
 use Rattle.ht_texts.proofs.fault_line.push_fault.Goals as goal
 
-pub push_stuck_line-requires : goal.push_stuck_line-requires
-push_stuck_line-requires c =
-    let circuit = c.args.circuit.now in
-    let i = c.args.i in
-    let is = c.get.ensures ∙ ap (λ (l : List Fault). get_or l i no_fault) c.requires.faults in
-    let inside = subst (λ (l : List Fault). i < length l) c.requires.faults c.requires.fault in
-    subst (λ (f : Fault). IsSite circuit f.site) (sym is) (fault_is_on_line circuit i inside)
+pub returns : goal.returns
+returns c =
+    let text = c.args.text.now.items in
+    let front = line_front c.args.circuit.now c.args.i in
+    let outcome = outcome_pieces c.args.circuit.now c.args.classes.now c.args.i c.args.said in
+    c.in_ok-extend_from_slice.ensures.items
+    ∙ ap (λ (t : List ℕ). t ++ codes "\n") (c.in_ok-push_outcome.ensures
+    ∙ ap (λ (t : List ℕ). add_pieces t outcome) c.in_ok-push_line_front.ensures ∙ added_both text front outcome)
+    ∙ line_added text (front ++ outcome)

@@ -1,11 +1,14 @@
-use Rattle.std.proofs.Common.{◌+◌, ◌<◌, ℕ, List, length, get_or, sym, ◌∙◌, ap, subst}
+use Rattle.std.proofs.Common.{◌+◌, ◌<◌, ℕ, List, [], ◌∷◌, ◌++◌, length, get_or, sym, ◌∙◌, ap, subst}
+use Rattle.std.specs.Prelude.{codes}
 use Rattle.std.specs.Fmt.{decimal}
 use Rattle.ht_net.specs.declared.fault.Fault.{Fault}
 use Rattle.ht_faults.specs.FaultList.{no_fault}
+use Rattle.ht_faults.specs.Classes.{fault_at}
 use Rattle.ht_texts.specs.Fronts.{Strips}
-use Rattle.ht_texts.specs.Reports.{fault_text}
+use Rattle.ht_texts.specs.Pieces.{word, number, pieces_text}
+use Rattle.ht_texts.specs.Reports.{fault_pieces}
 use Rattle.ht_texts.specs.Sites.{IsSite}
-use Rattle.ht_texts.proofs.FrontLaws.{strips_both}
+use Rattle.ht_texts.proofs.FrontLaws.{strips_pieces}
 use Rattle.ht_texts.proofs.SiteLaws.{fault_is_on_line}
 use Rattle.ht_texts.proofs.read_fault.strip_fault.Goals as goal
 
@@ -22,9 +25,12 @@ returns c =
     let circuit = c.args.circuit.now in
     let i = c.args.i in
     let is = c.get.ensures ∙ ap (λ (l : List Fault). get_or l i no_fault) c.requires.faults in
-    let number = subst (λ (n : ℕ). Strips (decimal (n + 1)) c.args.text c.strip_number-rest.result) c.from.ensures
-    c.strip_number-rest.ensures in
-    let fault = subst
-    (λ (f : Fault). Strips (fault_text circuit f) c.strip_word-rest.result c.strip_stuck_line-rest.result) is
-    c.strip_stuck_line-rest.ensures in
-    strips_both (strips_both (strips_both number c.strip_word-rest.ensures) fault) c.strip_word.ensures
+    let fault = fault_pieces circuit (fault_at circuit i) in
+    let front = subst (λ (n : ℕ). Strips (decimal (n + 1) ++ codes " ") c.args.text c.strip_pieces-rest.result)
+    c.from.ensures c.strip_pieces-rest.ensures in
+    let strips = subst
+    (λ (f : Fault). Strips (pieces_text (fault_pieces circuit f)) c.strip_pieces-rest.result c.strip_stuck_line-rest.result)
+    is c.strip_stuck_line-rest.ensures in
+    strips_pieces (number (i + 1) ∷ word (codes " ") ∷ fault) (word (codes " ") ∷ [])
+    (strips_pieces (number (i + 1) ∷ word (codes " ") ∷ []) fault front strips)
+    c.strip_word.ensures

@@ -1,8 +1,9 @@
-use Rattle.std.proofs.Common.{◌++◌, ap, ◌∙◌}
+use Rattle.std.proofs.Common.{◌++◌, ap, sym, ◌∙◌}
 use Rattle.std.specs.Prelude.{codes}
 use Rattle.ht_texts.specs.Verdicts.{place_text}
 use Rattle.ht_texts.proofs.FrontLaws.{rest_of_text, no_rest, the_rest, differs_after}
 use Rattle.ht_texts.proofs.ItemLaws.{no_verdict, word_is_sayable}
+use Rattle.ht_texts.proofs.VerdictLaws.{detection_parts}
 use Rattle.ht_texts.proofs.read_verdict.read_verdict.Goals as goal
 
 pub returns-in-Some : goal.returns-in-Some
@@ -32,5 +33,8 @@ pub returns : goal.returns
 returns c =
     let text = c.args.text.now in
     let front = the_rest (codes "detected ") text c.strip_word.result c.in_ok-rest.rest c.in_ok-rest.was
-    (rest_of_text c.strip_word.ensures) in
-    (c.in_ok-place.ensures.0, front ∙ ap (λ t. codes "detected " ++ t) c.in_ok-place.ensures.1)
+    (rest_of_text c.strip_word.ensures) in (
+      c.in_ok-place.ensures.0,
+      front ∙ ap (λ t. codes "detected " ++ t) c.in_ok-place.ensures.1
+          ∙ sym (detection_parts c.args.circuit.now c.in_ok-place.place),
+    )

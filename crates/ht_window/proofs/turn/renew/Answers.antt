@@ -19,7 +19,7 @@ written c =
     (subst (λ (a : HeldState). c.args.net < net_count a.standing.window.circuit) (sym e) c.requires.net)
     (c.requires.circuit ∙ sym (ap (λ (a : HeldState). a.standing.window.circuit) e))
     (c.requires.frames ∙ sym (ap (λ (a : HeldState). a.standing.window.frames) e))
-    q.standing q.values t.plan t.more t.loads
+    q.standing q.relevant q.values t.plan t.more t.loads
 
 pub returns-clause-renewed : goal.returns-clause-renewed
 returns-clause-renewed c =

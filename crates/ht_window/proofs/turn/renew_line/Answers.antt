@@ -1,7 +1,8 @@
 use Rattle.std.proofs.Common.{◌≡◌, ◌<◌, ◌∙◌, ℕ, ap, sym, arith, subst, Some}
 use Rattle.ht_net.specs.Netlist.{Netlist, net_count}
 use Rattle.ht_window.specs.Standing.{Standing}
-use Rattle.ht_window.specs.Turns.{HoldsOrPends, is_reached}
+use Rattle.ht_relevant.specs.Reached.{begins_at}
+use Rattle.ht_window.specs.Turns.{HoldsOrPends}
 use Rattle.ht_window.proofs.RenewLaws.{one_more_renewed, plan_renewed}
 use Rattle.ht_window.proofs.turn.renew_line.Goals as goal
 
@@ -58,7 +59,7 @@ returns-clause-holds c = λ f x fs xs reached.
     ∙ ap (λ (s : Standing). s.window.circuit) c.decided-decided.ensures.standing in
     let found : Some c.in-Some.net ≡ Some x = c.in-Some.ensures.only x
     (subst (λ (k : Netlist). x < net_count k) (sym circuit) xs)
-    (ap (λ (k : Netlist). is_reached k c.args.fault x) circuit ∙ reached) in
+    (ap (λ (k : Netlist). begins_at k c.args.fault x) circuit ∙ reached) in
     let same : c.in-Some.net ≡ x = cc in
     subst (λ (y : ℕ). HoldsOrPends c.loop-frame.core c.loop-frame.held f y) same
     (c.loop-frame.invariant.done f (omega (arith, t, n, d, fs)))

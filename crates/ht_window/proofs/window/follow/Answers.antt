@@ -62,10 +62,10 @@ returns-clause-cells c =
     (λ i. item_count (circuit i) (frames i)) in
     let known = c.decided.ensures in
     let quiet : QuietAgree b (item_agrees c.write.new.self) = λ y ys free.
-    follow_agrees a c.push.new.self c.write.new.self d known.window known.count c.requires.cells (omega (arith, n))
-    p.window p.cells p.ok f x v.frame v.net q.standing q.values y (omega (arith, ys, count))
+    follow_agrees a c.push.new.self c.write.new.self d known.window known.count c.requires.closed c.requires.cells
+    (omega (arith, n)) p.window p.relevant p.cells p.ok f x v.frame v.net q.standing q.relevant q.values y (omega (arith, ys, count))
     (λ r. free (t.loads y (subst (λ (k : ℕ). IsReader c.args.core.now.plan.circuit k f x y) (sym c.requires.frames)
     (subst (λ (n : Netlist). IsReader n w.frames f x y) (sym c.requires.circuit) r)))) in
-    follow_cells a c.push.new.self c.write.new.self d known.window known.count c.requires.cells (omega (arith, n))
-    p.window p.cells p.ok f x v.frame v.net q.standing q.values r s.keeps
+    follow_cells a c.push.new.self c.write.new.self d known.window known.count c.requires.closed c.requires.cells
+    (omega (arith, n)) p.window p.relevant p.cells p.ok f x v.frame v.net q.standing q.relevant q.values r s.keeps
     (settled_all b c.settle.new.self w c.write.new.self r s.plan circuit frames quiet s.agree s.none)

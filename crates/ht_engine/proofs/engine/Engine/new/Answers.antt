@@ -4,12 +4,12 @@ use Rattle.std.proofs.lemmas.List.Elements.{All-nil}
 use Rattle.ht_tern.specs.declared.tern.Tern.{Tern}
 use Rattle.ht_net.specs.Detection.{IsStart, some_state}
 use Rattle.ht_net.proofs.SilenceLaws.{some_long}
-use Rattle.ht_grade.specs.GraderView.{GraderView}
+use Rattle.ht_proofs.specs.ClassGraderView.{ClassGraderStandsFor}
 use Rattle.ht_tree.specs.Invariants.{IsInvariant}
 use Rattle.ht_invariant.specs.FoundClauses.{FindsClauses}
 use Rattle.ht_valid.specs.ValidFiles.{HasEntry}
 use Rattle.ht_engine.specs.FaultWork.{HoldsIfAny, IsNamedInvariant}
-use Rattle.ht_engine.specs.EngineStands.{EngineStandsFor, EngineView, IsKindIn, all_first, kind_at}
+use Rattle.ht_engine.specs.EngineStands.{EngineStandsFor, EngineView, HasGraded, IsKindIn, all_first, kind_at}
 use Rattle.ht_engine.specs.Steps.{none}
 use Rattle.ht_engine.proofs.ChosenLaws.{classes_listed}
 use Rattle.ht_engine.proofs.engine.Engine.new.Goals as goal
@@ -19,16 +19,16 @@ no_entry : (i : ℕ) → ¬ HasEntry [] i
 no_entry i h = let l = h.among.1 in absurd (omega (arith, l))
 
 -- nothing is kept, so the engine stands for no steps
-new_stands : (e : EngineView) → IsStart e.circuit e.settings.start → e.list ≡ []
+new_stands : (e : EngineView) → IsStart e.circuit e.settings.start → HasGraded e []
     → ((i : ℕ) → i < length e.representatives → kind_at e i ≡ None) → e.place ≡ 0
     → e.rest ≡ all_first e
     → IsNamedInvariant e.circuit e.settings.start e.settings.budget e.named_invariant
     → HoldsIfAny e.circuit e.named_invariant → EngineStandsFor e []
-new_stands e latches list empty place rest found holds = record {
+new_stands e latches graded empty place rest found holds = record {
   latches = latches;
   are = none;
   rest = rest;
-  list = list;
+  graded = graded;
   kinds = λ i l. subst (IsKindIn [] i) (sym (empty i l)) (no_entry i);
   done = λ i l. absurd (omega (arith, l, place));
   entered = λ i h. absurd (no_entry i h);
@@ -81,9 +81,8 @@ invariant_of-result c =
       engine = record {
         faults = c.requires.faults;
         classes = c.requires.classes;
-        circuit = ap (λ (g : GraderView). g.circuit) started;
-        representatives = ap (λ (g : GraderView). g.representatives) started;
-        start = ap (λ (g : GraderView). g.start) started ∙ c.as_slice-start.ensures;
+        circuit = started.circuit;
+        representatives = started.classes;
         budget = c.requires.budget;
         kinds = c.in_ok-kinds.ensures.each ∙ c.len.ensures;
         place = omega arith;
@@ -100,7 +99,12 @@ pub returns-clause-none : goal.returns-clause-none
 returns-clause-none c =
     let count = c.len.ensures in
     new_stands _ c.requires.latches
-    (ap (λ (g : GraderView). g.list) c.in_ok-grader.ensures)
+    (record {
+      circuit = c.in_ok-grader.ensures.circuit;
+      representatives_same = c.in_ok-grader.ensures.classes;
+      stands = subst (λ (start : List Tern). ClassGraderStandsFor c.in_ok-grader.grader start [])
+          c.as_slice-start.ensures c.in_ok-grader.ensures.stands;
+    })
     (λ i l. c.in_ok-kinds.ensures.none i (omega (arith, l, count))) refl
     (rw c.inputs.ensures at c.in_ok-first.ensures.rest)
     (found_named (goal.at.returns-clause-none c).In_ok-named_invariant)

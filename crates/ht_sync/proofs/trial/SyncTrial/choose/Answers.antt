@@ -4,6 +4,7 @@ use Rattle.ht_net.specs.Netlist.{Netlist, no_net}
 use Rattle.ht_tree.specs.declared.window.Spot.TheVariants.{State}
 use Rattle.ht_tree.specs.Places.{spot_net}
 use Rattle.ht_tree.specs.Windows.{cell_at}
+use Rattle.ht_window.proofs.RestrictLaws.{whole_matters}
 use Rattle.ht_sync.proofs.LastLaws.{found_latch, last_undetermined, open_finds}
 use Rattle.ht_sync.proofs.trial.SyncTrial.choose.Goals as goal
 
@@ -29,6 +30,10 @@ walk_back-requires-clause-undetermined c =
     subst (λ (f : ℕ). 1 < length (cell_at w s.decisions f c.dff_data.result.0)) at
     (subst (λ (x : ℕ). 1 < length (cell_at w s.decisions (w.frames - 1) x)) net
     (last_undetermined w s.decisions j (omega (arith, some, known)) here.0 here.1))
+
+pub walk_back-requires-clause-matters : goal.walk_back-requires-clause-matters
+walk_back-requires-clause-matters c =
+    whole_matters c.args.self.now.window (c.circuit-circuit.ensures.whole c.args.self.now.good) _ _
 
 pub unreachable-requires : goal.unreachable-requires
 unreachable-requires c =

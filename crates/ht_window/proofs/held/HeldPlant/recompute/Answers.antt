@@ -1,4 +1,5 @@
 use Rattle.std.proofs.Common.{◌≡◌, ◌+◌, ◌∙◌, ℕ, ap, set, subst, sym}
+use Rattle.std.proofs.lemmas.Bool.{false≢true}
 use Rattle.ht_trail.specs.Trails.{IsLater}
 use Rattle.ht_events.specs.Items.{driven_net, item_at}
 use Rattle.ht_window.specs.Standing.{Standing}
@@ -26,7 +27,7 @@ done c =
     let s = c.in_ok-set.ensures in
     recomputed c.args.self.now b d.window d.count f c.args.local x v c.requires.frame c.requires.local
     (net_is _ _ c.inputs.result c.args.local c.inputs.ensures d.standing) e.value
-    (s.standing ∙ ap (λ (h : HeldState). h.standing) e.same)
+    (s.standing ∙ ap (λ (h : HeldState). h.standing) e.same) (s.relevant ∙ ap (λ (h : HeldState). h.relevant) e.same)
     (subst (λ (h : HeldState). b.cells.values ≡ set h.cells.values (cell_index h.standing.window f x) v) e.same
     s.values)
     (subst (λ (h : HeldState). IsLater h.cells b.cells) e.same s.later)
@@ -44,7 +45,18 @@ returns-then-eq-clause-agrees c =
     (sym c.cell.ensures ∙ c.eq.ensures.same_members.0 c.if-eq.true) in
     subst (λ (h : HeldState). item_agrees h (item_at a.standing.window.circuit f l)) (sym e.same)
     (net_agrees a f l x c.requires.local
-    (net_is _ _ c.inputs.result l c.inputs.ensures c.decided.ensures.standing) (held ∙ e.value))
+    (net_is _ _ c.inputs.result l c.inputs.ensures c.decided.ensures.standing) (λ m. held ∙ e.value))
+
+-- and so does one whose net doesn't matter
+pub returns-then-not-matters-clause-agrees : goal.returns-then-not-matters-clause-agrees
+returns-then-not-matters-clause-agrees c =
+    let a = c.args.self.now in
+    let l = c.args.local in
+    let off = c.if-not-matters.true in
+    let is = c.matters.ensures in
+    net_agrees a c.args.frame l (c.inputs.result + l) c.requires.local
+    (net_is _ _ c.inputs.result l c.inputs.ensures c.decided.ensures.standing)
+    (λ m. absurd (false≢true (sym off ∙ (is ∙ m))))
 
 pub returns-clause-keeps : goal.returns-clause-keeps
 returns-clause-keeps c = (done c).keeps

@@ -9,8 +9,8 @@ use Rattle.ht_window.specs.Seen.{cube_seen_of}
 use Rattle.ht_window.specs.declared.cube.CubeSeen.{CubeSeen}
 use Rattle.ht_window.proofs.window.Window.choose.Goals as goal
 
-pub from_latch-requires : goal.from_latch-requires
-from_latch-requires c =
+pub from_latch-requires-clause-walks : goal.from_latch-requires-clause-walks
+from_latch-requires-clause-walks c =
     let s = c.args.self.now in
     let valid = c.circuit.ensures.valid in
     let start : start_of c.start.result.now ≡ s.window.start = c.start.ensures in
@@ -26,8 +26,8 @@ from_latch-requires c =
     λ j is. found_latch_walks s.window s.decisions valid c.in-Back.cube c.in-Back.limit h j
     (sym (ap (λ (s : CubeSeen). s.undetermined_latch) seen) ∙ is)
 
-pub from_place-requires : goal.from_place-requires
-from_place-requires c =
+pub from_place-requires-clause-walks : goal.from_place-requires-clause-walks
+from_place-requires-clause-walks c =
     let s = c.args.self.now in
     let valid = c.circuit.ensures.valid in
     let start : start_of c.start.result.now ≡ s.window.start = c.start.ensures in
@@ -38,4 +38,4 @@ from_place-requires c =
         | inr p ↦ ap (status_from s.window s.decisions) (sym (ap start_of p.1) ∙ start) ∙ c.requires
       ]
     ] in
-    λ p is. found_place_walks s.window s.decisions valid h p (sym c.first_place.ensures ∙ is)
+    λ p is. found_place_walks s.window s.decisions valid h p (sym c.first_place.ensures.first ∙ is)

@@ -1,11 +1,24 @@
-use Rattle.std.proofs.Common.{◌≡◌, ◌≤◌, ◌+◌, ◌-◌, ◌∙◌, ℕ, List, ap, sym, arith}
+use Rattle.std.proofs.Common.{◌≡◌, ◌<◌, ◌≤◌, ◌+◌, ◌-◌, ◌∙◌, ℕ, List, length, ap, sym, arith, subst}
 use Rattle.ht_tern.specs.declared.gate.Kind.{Kind}
 use Rattle.ht_pairs.specs.Pairs.{Pair}
 use Rattle.ht_net.specs.Netlist.{IsCircuit, first_gate_net, gate_at}
 use Rattle.ht_tree.specs.Windows.{cell_at, pair_set_rules}
 use Rattle.ht_tree.specs.WalkBack.{undetermined_argument, bit_before}
+use Rattle.ht_relevant.proofs.WalkPartLaws.{argument_matters}
+use Rattle.ht_window.specs.Matters.{is_relevant}
 use Rattle.ht_window.proofs.WalkLaws.{back_step, back_none, back_low, undetermined_argument_known}
 use Rattle.ht_window.proofs.window.Window.end_in_frame.Goals as goal
+
+pub undetermined_argument-net-requires-clause-matters : goal.undetermined_argument-net-requires-clause-matters
+undetermined_argument-net-requires-clause-matters c =
+    let s = c.args.self.now in
+    let circuit : c.circuit-circuit.result.now ≡ s.window.circuit = c.circuit-circuit.ensures.circuit in
+    let first : c.inputs.result + c.dffs.result ≡ first_gate_net s.window.circuit =
+    (λ k. c.inputs.ensures k + c.dffs.ensures k) ∙ ap first_gate_net circuit in
+    let t = c.if-net-first_gate_net.true in
+    let back : first_gate_net s.window.circuit + (c.loop-left.net - (c.inputs.result + c.dffs.result))
+    ≡ c.loop-left.net = omega (arith, first, t) in
+    ap (λ (x : ℕ). is_relevant s.relevant c.args.frame x) back ∙ c.loop-left.invariant.matters
 
 pub loop-left-preserved : goal.loop-left-preserved
 loop-left-preserved c =
@@ -31,16 +44,21 @@ loop-left-preserved c =
     let is_bit : c.turn-bit.result ≡ bit_before (gate_at n (net - first_gate_net n)).kind c.loop-left.bit =
     c.turn-bit.ensures ∙ ap (λ (k : Kind). bit_before k c.loop-left.bit) kind in
     let inside = undetermined_argument_known n r env (net - first_gate_net n) valid (omega (arith, known, high)) in
+    let next = argument_matters s.window c.circuit-circuit.ensures.valid s.decisions c.args.frame
+    (is_relevant s.relevant) c.relevance.ensures.closed c.requires.frame net known high
+    c.loop-left.invariant.matters c.loop-left.invariant.undetermined in
     record {
       known = omega (arith, is_net, inside);
+      matters = ap (λ (x : ℕ). is_relevant s.relevant c.args.frame x) is_net ∙ next.0;
+      undetermined = subst (λ (x : ℕ). 1 < length (env x)) (sym is_net) next.1;
       same = back_step n r env c.loop-left.left (record { net = net; bit = c.loop-left.bit })
           (record { net = c.undetermined_argument-net.result; bit = c.turn-bit.result }) (omega (arith, l)) high
           (λ k. record { net = is_net k; bit = is_bit k })
           ∙ c.loop-left.invariant.same;
     }
 
-pub returns-else-net-first_gate_net : goal.returns-else-net-first_gate_net
-returns-else-net-first_gate_net c =
+pub returns-else-net-first_gate_net-clause-end : goal.returns-else-net-first_gate_net-clause-end
+returns-else-net-first_gate_net-clause-end c =
     let s = c.args.self.now in
     let n = s.window.circuit in
     let circuit : c.circuit-circuit.result.now ≡ n = c.circuit-circuit.ensures.circuit in
@@ -51,8 +69,8 @@ returns-else-net-first_gate_net c =
     (record { net = c.loop-left.net; bit = c.loop-left.bit }) (omega (arith, first, t)))
     ∙ c.loop-left.invariant.same
 
-pub returns-after-loop-left : goal.returns-after-loop-left
-returns-after-loop-left c =
+pub returns-after-loop-left-clause-end : goal.returns-after-loop-left-clause-end
+returns-after-loop-left-clause-end c =
     let s = c.args.self.now in
     let l = c.loop-left-test.false in
     sym (back_none s.window.circuit (pair_set_rules s.window.fault) (cell_at s.window s.decisions c.args.frame)

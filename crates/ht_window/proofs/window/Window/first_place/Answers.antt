@@ -13,14 +13,14 @@ loop-frame-init c =
     ap (λ (n : ℕ). find (shows_at s.window s.decisions c.args.look)
     (flat_map (output_places s.window.circuit) (range_with_len 0 n) ++ state_places s.window.circuit s.window.start)) all
 
-pub returns-then-is_some : goal.returns-then-is_some
-returns-then-is_some c =
+pub returns-then-is_some-clause-first : goal.returns-then-is_some-clause-first
+returns-then-is_some-clause-first c =
     let s = c.args.self.now in
     let end = c.frames-frame-end.ensures.frames in
     let t = c.loop-frame-test.true in
     sym ((list_step (shows_at s.window s.decisions c.args.look) (output_places s.window.circuit)
     (state_places s.window.circuit s.window.start) c.loop-frame.frame s.window.frames c.first_output-place.result
-    (omega (arith, end, t)) c.first_output-place.ensures _ c.loop-frame.invariant).0
+    (omega (arith, end, t)) c.first_output-place.ensures.first _ c.loop-frame.invariant).0
     (sym c.is_some.ensures ∙ c.if-is_some.true))
 
 pub loop-frame-preserved : goal.loop-frame-preserved
@@ -30,5 +30,5 @@ loop-frame-preserved c =
     let t = c.loop-frame-test.true in
     (list_step (shows_at s.window s.decisions c.args.look) (output_places s.window.circuit)
     (state_places s.window.circuit s.window.start) c.loop-frame.frame s.window.frames c.first_output-place.result
-    (omega (arith, end, t)) c.first_output-place.ensures _ c.loop-frame.invariant).1
+    (omega (arith, end, t)) c.first_output-place.ensures.first _ c.loop-frame.invariant).1
     (sym c.is_some.ensures ∙ c.if-is_some.false)

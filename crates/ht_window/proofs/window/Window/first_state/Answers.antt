@@ -5,8 +5,9 @@ use Rattle.ht_tree.specs.Decisions.{is_in}
 use Rattle.ht_tree.specs.Places.{set_at}
 use Rattle.ht_window.specs.Starts.{marked}
 use Rattle.ht_window.specs.Seen.{shows, shows_at}
-use Rattle.ht_window.proofs.SeenLaws.{next_set, state_step}
-use Rattle.ht_window.proofs.window.Window.first_state.Goals.{else-not-is_set-via-then-not-is_set+else-shows, else-not-is_set-via-else-not-is_set}
+use Rattle.ht_window.proofs.RestrictLaws.{outside_counts}
+use Rattle.ht_window.proofs.SeenLaws.{state_step}
+use Rattle.ht_window.proofs.window.Window.first_state.Goals.{else-not-is_set-via-then-not-is_set+else-state_shows, else-not-is_set-via-else-not-is_set}
 use Rattle.ht_window.proofs.window.Window.first_state.Goals as goal
 
 pub loop-j-init : goal.loop-j-init
@@ -17,13 +18,17 @@ loop-j-init c =
     (map (λ j. record { frame = 0; spot = State j })
     (filter (λ j. not (is_in (marked 0 c.args.z.now) j)) (range_with_len 0 n)))) all
 
-pub returns-then-shows : goal.returns-then-shows
-returns-then-shows c =
+pub state_shows-requires-clause-counts : goal.state_shows-requires-clause-counts
+state_shows-requires-clause-counts c =
+    outside_counts c.args.self.now.window.start c.args.z.now c.requires.start c.loop-j.j
+    (sym c.if-not-is_set.true ∙ c.is_set.ensures)
+
+pub returns-then-state_shows-clause-first : goal.returns-then-state_shows-clause-first
+returns-then-state_shows-clause-first c =
     let s = c.args.self.now in
     let end = c.dffs-j-end.ensures in
     let t = c.loop-j-test.true in
-    let set = c.next_state.ensures ∙ next_set s.window s.decisions c.loop-j.j c.requires (omega (arith, end, t)) in
-    let here = ap (shows c.args.look) (sym set) ∙ (sym c.shows.ensures ∙ c.if-shows.true) in
+    let here = sym c.state_shows.ensures.shows ∙ c.if-state_shows.true in
     sym (state_step s.window s.decisions c.args.look c.args.z.now c.loop-j.j c.dffs-j-end.result c.is_set.result true end
     (omega (arith, t)) c.is_set.ensures
     ((λ i. not (c.if-not-is_set.true i) && shows c.args.look (set_at s.window s.decisions 0 (State c.loop-j.j))) ∙ here) _
@@ -36,10 +41,9 @@ loop-j-preserved c =
     let t = c.loop-j-test.true in
     let next : (not c.is_set.result && shows c.args.look (set_at s.window s.decisions 0 (State c.loop-j.j))) ≡ false =
     elim c.else-not-is_set.branch [
-      | else-not-is_set-via-then-not-is_set+else-shows w ↦
-          let set = w.next_state.ensures ∙ next_set s.window s.decisions c.loop-j.j c.requires (omega (arith, end, t)) in
-          let here = ap (shows c.args.look) (sym set) ∙ (sym w.shows.ensures ∙ w.if-shows.false) in
-          (λ i. not (w.if-not-is_set.true i) && shows c.args.look (set_at s.window s.decisions 0 (State c.loop-j.j))) ∙ here
+      | else-not-is_set-via-then-not-is_set+else-state_shows w ↦
+          (λ i. not (w.if-not-is_set.true i) && shows c.args.look (set_at s.window s.decisions 0 (State c.loop-j.j)))
+          ∙ (sym w.state_shows.ensures.shows ∙ w.if-state_shows.false)
       | else-not-is_set-via-else-not-is_set w ↦
           (λ i. not (w.if-not-is_set.false i) && shows c.args.look (set_at s.window s.decisions 0 (State c.loop-j.j)))
     ] in

@@ -4,6 +4,6 @@ use Rattle.ht_window.proofs.window.Window.from_latch.Goals as goal
 
 pub dff_data-requires : goal.dff_data-requires
 dff_data-requires c =
-    let l = (c.requires c.in-Some.j c.in-Some.is).0 in
+    let l = (c.requires.walks c.in-Some.j c.in-Some.is).0 in
     let e = ap (λ (n : Netlist). length n.dffs) (c.circuit.ensures.circuit) in
     omega (arith, l, e)

@@ -18,6 +18,6 @@ returns c =
     let frames = c.frames-last.ensures ∙ ap (λ (w : SearchWindow). w.frames) window in
     let circuit = c.circuit-circuit.ensures.circuit ∙ ap (λ (w : SearchWindow). w.circuit) window in
     last_latch s.window s.decisions (c.frames-last.result - 1) c.args.j c.data_pin.result c.cell.result c.fault.result
-    c.dff_data.result (omega (arith, frames, some, k)) c.requires
+    c.dff_data.result (omega (arith, frames, some, k)) c.requires.dff
     c.data_pin.ensures (c.fault.ensures ∙ ap (λ (w : SearchWindow). w.fault) window)
     (c.dff_data.ensures ∙ ap (λ (n : Netlist). get_or n.dffs c.args.j no_net) circuit) c.cell.ensures

@@ -18,7 +18,7 @@ loop-j-preserved c =
       | then-is_definite w ↦ w.seen-is ∙ (w.with-seen.ensures
           ∙ latch_kept s.window s.decisions c.args.cube.now j c.value_at-value.result w.next_state.result c.loop-j.seen
           c.loop-j.invariant c.value_at-value.ensures (sym c.is_definite.ensures ∙ w.if-is_definite.true)
-          (w.next_state.ensures ∙ next_set s.window s.decisions j c.requires inside))
+          (w.next_state.ensures ∙ next_set s.window s.decisions j c.requires.single inside))
       | else-is_definite w ↦ w.seen-is
           ∙ latch_passed s.window s.decisions c.args.cube.now j c.value_at-value.result c.loop-j.seen c.loop-j.invariant
           c.value_at-value.ensures (sym c.is_definite.ensures ∙ w.if-is_definite.false)

@@ -9,9 +9,10 @@ use Rattle.ht_tree.specs.Places.{spot_net}
 use Rattle.ht_tree.specs.WalkBack.{Wanted, choice_at, end_in_frame, walk_back}
 use Rattle.ht_tree.specs.Variables.{IsLegalChoice}
 use Rattle.ht_tree.proofs.PickLaws.{net_has_choice}
+use Rattle.ht_window.specs.Matters.{is_relevant}
 use Rattle.ht_window.specs.States.{WindowState}
 use Rattle.ht_window.specs.WantedOf.{wanted_of}
-use Rattle.ht_window.proofs.WalkLaws.{ends_low, ends_undetermined_at, choice_input, choice_latch, choice_back, data_undetermined}
+use Rattle.ht_window.proofs.WalkLaws.{ends_low, ends_undetermined_at, choice_input, choice_latch, choice_back, data_matters, data_undetermined}
 use Rattle.ht_window.proofs.window.Window.walk_back.Goals.{then-loop-frame-test+else-at-inputs, else-loop-frame-test}
 use Rattle.ht_window.proofs.window.Window.walk_back.Goals as goal
 
@@ -20,15 +21,47 @@ loop-frame-init c =
     let s = c.args.self.now in
     let valid : IsCircuit s.window.circuit = c.circuit-circuit.ensures.valid.circuit in
     let at : Wanted = record { net = c.args.net.0; bit = c.args.wanted } in
-    let e = c.end_in_frame-at.ensures in
+    let e = c.end_in_frame-at.ensures.end in
     record {
       frame = c.requires.frame;
       low = let l = ends_low s.window s.decisions valid c.args.frame at c.requires.net c.requires.undetermined
           in let n = ap (λ (x : Wanted). x.net) e in omega (arith, l, n);
+      matters = c.end_in_frame-at.ensures.matters;
       undetermined = subst (λ (x : Wanted). 1 < length (cell_at s.window s.decisions c.args.frame x.net)) (sym e)
           (ends_undetermined_at s.window s.decisions valid c.args.frame at c.requires.net c.requires.undetermined);
       same = ap (choice_at s.window s.decisions c.args.frame) e;
     }
+
+-- the data net of the latch where the walk stands
+data_net : (c : goal.After-dff_data) → c.dff_data.result.0
+    ≡ spot_net c.args.self.now.window.circuit (State (c.loop-frame.at.net - c.args.self.now.window.circuit.inputs))
+data_net c =
+    let circuit = c.circuit-circuit.ensures.circuit in
+    let inputs = c.inputs-inputs.ensures ∙ ap (λ (n : Netlist). n.inputs) circuit in
+    ap (λ (x : NetId). x.0)
+    (c.dff_data.ensures ∙ (λ k. get_or (circuit k).dffs (c.loop-frame.at.net - inputs k) no_net))
+
+pub end_in_frame-at-requires-in-loop-frame-clause-matters : goal.end_in_frame-at-requires-in-loop-frame-clause-matters
+end_in_frame-at-requires-in-loop-frame-clause-matters c =
+    let s = c.args.self.now in
+    let e = c.circuit-circuit.ensures in
+    let i = c.loop-frame.invariant in
+    let t = c.if-at-inputs.true in
+    let inputs = c.inputs-inputs.ensures ∙ ap (λ (n : Netlist). n.inputs) e.circuit in
+    ap (is_relevant s.relevant (c.loop-frame.frame - 1)) (data_net c)
+    ∙ data_matters s.window s.decisions e.valid.circuit (is_relevant s.relevant) c.relevance.ensures.closed
+    c.loop-frame.frame c.loop-frame.at.net i.frame c.loop-frame-test.true (omega (arith, t, inputs)) i.low i.matters
+
+pub end_in_frame-at-requires-in-loop-frame-clause-undetermined : goal.end_in_frame-at-requires-in-loop-frame-clause-undetermined
+end_in_frame-at-requires-in-loop-frame-clause-undetermined c =
+    let s = c.args.self.now in
+    let e = c.circuit-circuit.ensures in
+    let i = c.loop-frame.invariant in
+    let t = c.if-at-inputs.true in
+    let inputs = c.inputs-inputs.ensures ∙ ap (λ (n : Netlist). n.inputs) e.circuit in
+    subst (λ (x : ℕ). 1 < length (cell_at s.window s.decisions (c.loop-frame.frame - 1) x)) (sym (data_net c))
+    (data_undetermined s.window s.decisions e.valid.circuit c.loop-frame.frame c.loop-frame.at.net c.loop-frame-test.true
+    (omega (arith, t, inputs)) i.low i.undetermined)
 
 pub loop-frame-preserved : goal.loop-frame-preserved
 loop-frame-preserved c =
@@ -49,7 +82,7 @@ loop-frame-preserved c =
     ap (λ (x : NetId). x.0) (c.dff_data.ensures ∙ (λ k. get_or (circuit k).dffs (here - inputs k) no_net)) in
     let at : Wanted = record { net = spot_net n (State (here - n.inputs)); bit = c.loop-frame.at.bit } in
     let e : wanted_of c.end_in_frame-at-in-loop-frame.result ≡ end_in_frame s.window s.decisions (frame - 1) at =
-    c.end_in_frame-at-in-loop-frame.ensures ∙ ap
+    c.end_in_frame-at-in-loop-frame.ensures.end ∙ ap
     (λ (x : ℕ). end_in_frame s.window s.decisions (frame - 1) (record { net = x; bit = c.loop-frame.at.bit }))
     source in
     let known : at.net < net_count n = valid.data_known (here - n.inputs) (omega (arith, high, low)) in
@@ -60,6 +93,7 @@ loop-frame-preserved c =
       frame = omega (arith, f);
       low = let l = ends_low s.window s.decisions valid (frame - 1) at known undetermined
           in let n = ap (λ (x : Wanted). x.net) e in omega (arith, l, n);
+      matters = c.end_in_frame-at-in-loop-frame.ensures.matters;
       undetermined = subst (λ (x : Wanted). 1 < length (cell_at s.window s.decisions (frame - 1) x.net)) (sym e)
           (ends_undetermined_at s.window s.decisions valid (frame - 1) at known undetermined);
       same = ap (choice_at s.window s.decisions (frame - 1)) e ∙

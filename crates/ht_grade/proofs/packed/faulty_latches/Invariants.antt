@@ -1,6 +1,0 @@
-use Rattle.std.proofs.Common.{◌≡◌, take}
-use Rattle.ht_proofs.specs.PackedView.{state_at}
-use Rattle.ht_grade.proofs.packed.faulty_latches.Given as goal
-
-abbrev pub invariant-loop-j : goal.invariant-loop-j
-invariant-loop-j l = l.latches.items ≡ take l.j (state_at l.packed l.k)

@@ -1,0 +1,11 @@
+pub mod DecisionLaws
+pub mod DifferenceLaws
+pub mod FrameSetLaws
+pub mod FreshLaws
+pub mod PlaceLaws
+pub mod WantedLaws
+pub mod StatusLaws
+pub mod BegunLaws
+pub mod CubeLaws
+pub mod NetSetLaws
+pub mod ClauseLaws

@@ -1,0 +1,382 @@
+-- Numbers that are found, nearest first.
+use Rattle.std.proofs.Common.{◌≡◌, ◌∙◌, ◌<◌, ◌≤◌, ◌+◌, ◌⊎◌, ℕ, List, [], ◌∷◌, ◌++◌, Bool, true, false, cond, length, get_or, set, replicate, refl, sym, ap, subst, inl, inr, arith, get_or-set_other, get_or-set_same}
+use Rattle.std.specs.Prelude.{ltb}
+use Rattle.std.specs.List.{Contains}
+use Rattle.std.proofs.lemmas.Bool.Decides.{eqb_tells, nat_tests}
+use Rattle.std.proofs.lemmas.List.{get_or_past, get_or-replicate, length-set, length_push, length-replicate}
+use Rattle.std.proofs.lemmas.List.Elements.{Contains-push, Contains-append_left, Contains-push_cases}
+use Rattle.std.proofs.lemmas.List.Sums.{sum_by-set}
+use Rattle.ht_net.specs.Netlist.{Netlist}
+use Rattle.ht_relevant.specs.declared.way.Way.{Way}
+use Rattle.ht_relevant.specs.Steps.{AreSpread, LeadsWithin, LeadsOn}
+use Rattle.ht_relevant.specs.Distances.{DistanceState, AreDistances, AreFollowed, HasGrown, IsFollowed, IsLower, number_of, if_none}
+
+pub less_true : (a b : ℕ) → a < b → ltb a b ≡ true
+less_true a b h = grind (arith, nat_tests)
+
+pub true_less : (a b : ℕ) → ltb a b ≡ true → a < b
+true_less a b h = grind (arith, nat_tests)
+
+pub false_least : (a b : ℕ) → ltb a b ≡ false → b ≤ a
+false_least a b h = grind (arith, nat_tests)
+
+pub least_false : (a b : ℕ) → b ≤ a → ltb a b ≡ false
+least_false a b h = grind (arith, nat_tests)
+
+empty : {A : Type 0} (i : ℕ) → Contains [] i → A
+empty i h = let l = h.1 in absurd (omega (arith, l))
+
+-- a net with a number is one of the nets
+pub numbered_inside : (s : DistanceState) (x : ℕ) → number_of s x < s.frames → x < length s.numbers
+numbered_inside s x h = elim (less_or s.numbers x) [
+  | inl l ↦ l
+  | inr past ↦ let e = get_or_past s.numbers x s.frames past in absurd (omega (arith, h, e))
+] where
+  less_or : (l : List ℕ) (x : ℕ) → (x < length l) ⊎ (length l ≤ x)
+  less_or l x = grind arith
+
+-- ---- numbers that grow
+
+pub lower_same : (s : DistanceState) → IsLower s s
+lower_same s = record { frames = refl; count = refl; lower = λ x. omega arith }
+
+pub lower_more : (s t u : DistanceState) → IsLower s t → IsLower t u → IsLower s u
+lower_more s t u h k = record {
+  frames = k.frames ∙ h.frames;
+  count = k.count ∙ h.count;
+  lower = λ x. let a = h.lower x in let b = k.lower x in omega (arith, a, b);
+}
+
+pub grown_same : (s : DistanceState) → HasGrown s s
+grown_same s = record {
+  lower = lower_same s;
+  distance = refl;
+  kept = λ x h. refl;
+  new = λ x h. inl h;
+  waits = λ x h. h;
+  later = λ x h. h;
+  left = refl;
+}
+
+pub grown_more : (s t u : DistanceState) → HasGrown s t → HasGrown t u → HasGrown s u
+grown_more s t u h k = record {
+  lower = lower_more s t u h.lower k.lower;
+  distance = k.distance ∙ h.distance;
+  kept = λ x n.
+      let e = h.kept x n in
+      let f = h.lower.frames in
+      k.kept x (omega (arith, n, e, f)) ∙ e;
+  new = λ x n. elim (k.new x (let f = h.lower.frames in omega (arith, n, f))) [
+    | inl l ↦ elim (h.new x (let f = h.lower.frames in omega (arith, l, f))) [
+      | inl old ↦ inl old
+      | inr wait ↦ inr (k.waits x wait)
+    ]
+    | inr wait ↦ inr wait
+  ];
+  waits = λ x w. k.waits x (h.waits x w);
+  later = λ x w. k.later x (h.later x w);
+  left = k.left ∙ h.left;
+}
+
+-- ---- one more number
+
+-- net x with the number of the distance
+abbrev pub with_number : DistanceState → ℕ → DistanceState
+with_number s x = record {
+  frames = s.frames;
+  distance = s.distance;
+  numbers = set s.numbers x s.distance;
+  here = s.here ++ x ∷ [];
+  next = s.next;
+}
+
+module _ (s : DistanceState) (x : ℕ) (l : x < length s.numbers) where
+  number_there : number_of (with_number s x) x ≡ s.distance
+  number_there = get_or-set_same s.numbers x s.distance s.frames l
+
+  number_elsewhere : (y : ℕ) → (y ≡ x → ⊥) → number_of (with_number s x) y ≡ number_of s y
+  number_elsewhere y other = get_or-set_other s.numbers x y s.distance s.frames (λ same. other same)
+
+  number_cases : (y : ℕ) → ((y ≡ x) × (number_of (with_number s x) y ≡ s.distance))
+      ⊎ (number_of (with_number s x) y ≡ number_of s y)
+  number_cases y = elim (eqb_tells x y) [
+    | inl e ↦ inl (sym e.1, subst (λ (n : ℕ). number_of (with_number s x) n ≡ s.distance) e.1 number_there)
+    | inr e ↦ inr (number_elsewhere y (λ same. e.1 (sym same)))
+  ]
+
+  pub put_grown : s.distance < s.frames → s.frames ≤ number_of s x → HasGrown s (with_number s x)
+  put_grown inside free = record {
+    lower = record {
+      frames = refl;
+      count = length-set s.numbers x s.distance;
+      lower = λ y. elim (number_cases y) [
+        | inl e ↦
+            let d = e.1 in
+            let same : number_of s y ≡ number_of s x = ap (number_of s) e.0 in
+            omega (arith, d, same, inside, free)
+        | inr e ↦ omega (arith, e)
+      ];
+    };
+    distance = refl;
+    kept = λ y n. elim (number_cases y) [
+      | inl e ↦ let same : number_of s y ≡ number_of s x = ap (number_of s) e.0 in absurd (omega (arith, same, n, free))
+      | inr e ↦ e
+    ];
+    new = λ y n. elim (number_cases y) [
+      | inl e ↦ inr (subst (Contains (s.here ++ x ∷ [])) (sym e.0) (Contains-push s.here x))
+      | inr e ↦ inl (omega (arith, e, n))
+    ];
+    waits = λ y w. Contains-append_left s.here (x ∷ []) y w;
+    later = λ y w. w;
+    left = (
+        let sums = sum_by-set (if_none s.frames) s.numbers x s.distance s.frames l in
+        let none : if_none s.frames (number_of s x) ≡ 1 =
+        ap (λ (b : Bool). cond b 0 1) (least_false (number_of s x) s.frames free) in
+        let some : if_none s.frames s.distance ≡ 0 =
+        ap (λ (b : Bool). cond b 0 1) (less_true s.distance s.frames inside) in
+        let more = length_push s.here x in
+        omega (arith, sums, none, some, more)
+        );
+  }
+
+  pub put_distances : AreDistances s → AreDistances (with_number s x)
+  put_distances h = record {
+    few = h.few;
+    inside = h.inside;
+    most = λ y n. elim (number_cases y) [
+      | inl e ↦ let d = e.1 in omega (arith, d)
+      | inr e ↦ let m = h.most y (omega (arith, e, n)) in omega (arith, e, m)
+    ];
+    here = λ y w. elim (number_cases y) [
+      | inl e ↦ e.1
+      | inr e ↦ elim (Contains-push_cases s.here x y w) [
+        | inl old ↦ e ∙ h.here y old
+        | inr same ↦ subst (λ (n : ℕ). number_of (with_number s x) n ≡ s.distance) same number_there
+      ]
+    ];
+    next = λ y w. let a = h.next y w in let c = length-set s.numbers x s.distance in omega (arith, a, c);
+  }
+
+-- ---- one more net that is to get a number
+
+pub next_grown : (s : DistanceState) (x : ℕ) → HasGrown s (record s { next = s.next ++ x ∷ [] })
+next_grown s x = record {
+  lower = record { frames = refl; count = refl; lower = λ y. omega arith };
+  distance = refl;
+  kept = λ y h. refl;
+  new = λ y h. inl h;
+  waits = λ y h. h;
+  later = λ y h. Contains-append_left s.next (x ∷ []) y h;
+  left = refl;
+}
+
+pub next_distances : (s : DistanceState) (x : ℕ) → x < length s.numbers → AreDistances s
+    → AreDistances (record s { next = s.next ++ x ∷ [] })
+next_distances s x l h = record {
+  few = h.few;
+  inside = h.inside;
+  most = h.most;
+  here = h.here;
+  next = λ y w. elim (Contains-push_cases s.next x y w) [
+    | inl old ↦ h.next y old
+    | inr same ↦ omega (arith, same, l)
+  ];
+}
+
+-- ---- what is followed
+
+-- where no net has a number nothing is to be followed
+pub none_followed : (c : Netlist) (way : Way) (least : ℕ) (s : DistanceState)
+    → ((x : ℕ) → s.frames ≤ number_of s x) → AreFollowed c way least s
+none_followed c way least s none = record {
+  within = λ x y leads n. let f = none x in absurd (omega (arith, f, n));
+  on = λ x y leads n. let f = none x in absurd (omega (arith, f, n));
+}
+
+pub none_numbered : (frames n x : ℕ) → frames ≤ get_or (replicate n frames) x frames
+none_numbered frames n x = elim (less_or n x) [
+  | inl l ↦ let e = get_or-replicate n x frames frames l in omega (arith, e)
+  | inr past ↦
+      let c = length-replicate n frames in
+      let e = get_or_past (replicate n frames) x frames (omega (arith, past, c)) in
+      omega (arith, e)
+] where
+  less_or : (n x : ℕ) → (x < n) ⊎ (n ≤ x)
+  less_or n x = grind arith
+
+module _ (c : Netlist) (way : Way) (least : ℕ) (s t : DistanceState) (grown : HasGrown s t) where
+  pub grown_followed : AreFollowed c way least s → AreFollowed c way least t
+  grown_followed h = record {
+    within = λ x y leads n. elim (grown.new x (let f = grown.lower.frames in omega (arith, n, f))) [
+      | inl old ↦ elim (h.within x y leads old) [
+        | inl less ↦
+            let k = grown.kept x old in
+            let l = grown.lower.lower y in
+            inl (omega (arith, less, k, l))
+        | inr wait ↦ inr (grown.waits x wait)
+      ]
+      | inr wait ↦ inr wait
+    ];
+    on = λ x y leads n. elim (grown.new x (let f = grown.lower.frames in omega (arith, n, f))) [
+      | inl old ↦
+          let k = grown.kept x old in
+          let f = grown.lower.frames in
+          elim (h.on x y leads (omega (arith, n, k, f))) [
+            | inl (inl less) ↦ let l = grown.lower.lower y in inl (inl (omega (arith, less, k, l)))
+            | inl (inr due) ↦ let d = due.1 in inl (inr (grown.later y due.0, omega (arith, d, k)))
+            | inr wait ↦ inr (grown.waits x wait)
+          ]
+      | inr wait ↦ inr wait
+    ];
+  }
+
+-- the last net of this distance that was to be followed is
+module _ (c : Netlist) (way : Way) (s t : DistanceState) (x : ℕ) (at : number_of s x ≡ s.distance)
+    (grown : HasGrown s t) (followed : IsFollowed c way t x) where
+  pub popped_followed : AreFollowed c way s.distance (record s { here = s.here ++ x ∷ [] })
+      → AreFollowed c way t.distance t
+  popped_followed h =
+      let f = grown.lower.frames in
+      let d = grown.distance in
+      record {
+        within = λ y z leads n. elim (grown.new y (omega (arith, n, f))) [
+          | inl old ↦
+              let k = grown.kept y old in
+              elim (h.within y z leads old) [
+                | inl less ↦ let l = grown.lower.lower z in inl (omega (arith, less, k, l))
+                | inr wait ↦ elim (Contains-push_cases s.here x y wait) [
+                  | inl before ↦ inr (grown.waits y before)
+                  | inr same ↦
+                      let there : number_of s y ≡ s.distance = ap (number_of s) (sym same) ∙ at in
+                      let l = followed.within z (subst (λ (v : ℕ). LeadsWithin c way v z) (sym same) leads) in
+                      inl (omega (arith, l, k, there, d))
+                ]
+              ]
+          | inr wait ↦ inr wait
+        ];
+        on = λ y z leads n. elim (grown.new y (omega (arith, n, f))) [
+          | inl old ↦
+              let k = grown.kept y old in
+              elim (h.on y z leads (omega (arith, n, k, f))) [
+                | inl (inl less) ↦ let l = grown.lower.lower z in inl (inl (omega (arith, less, k, l)))
+                | inl (inr due) ↦ let m = due.1 in inl (inr (grown.later z due.0, omega (arith, m, k, d)))
+                | inr wait ↦ elim (Contains-push_cases s.here x y wait) [
+                  | inl before ↦ inr (grown.waits y before)
+                  | inr same ↦
+                      let there : number_of s y ≡ s.distance = ap (number_of s) (sym same) ∙ at in
+                      inl (inr (
+                        followed.on z (subst (λ (v : ℕ). LeadsOn c way v z) (sym same) leads),
+                        omega (arith, k, there, d),
+                      ))
+                ]
+              ]
+          | inr wait ↦ inr wait
+        ];
+      }
+
+-- what was to get a number one frame on has got it
+module _ (c : Netlist) (way : Way) (least : ℕ) (s t : DistanceState) (x : ℕ) (one : s.distance ≡ least + 1)
+    (grown : HasGrown s t) (put : number_of t x ≤ t.distance) where
+  pub next_followed : AreFollowed c way least (record s { next = s.next ++ x ∷ [] }) → AreFollowed c way least t
+  next_followed h =
+      let f = grown.lower.frames in
+      let d = grown.distance in
+      record {
+        within = λ y z leads n. elim (grown.new y (omega (arith, n, f))) [
+          | inl old ↦
+              let k = grown.kept y old in
+              elim (h.within y z leads old) [
+                | inl less ↦ let l = grown.lower.lower z in inl (omega (arith, less, k, l))
+                | inr wait ↦ inr (grown.waits y wait)
+              ]
+          | inr wait ↦ inr wait
+        ];
+        on = λ y z leads n. elim (grown.new y (omega (arith, n, f))) [
+          | inl old ↦
+              let k = grown.kept y old in
+              elim (h.on y z leads (omega (arith, n, k, f))) [
+                | inl (inl less) ↦ let l = grown.lower.lower z in inl (inl (omega (arith, less, k, l)))
+                | inl (inr due) ↦
+                    let m = due.1 in
+                    elim (Contains-push_cases s.next x z due.0) [
+                      | inl before ↦ inl (inr (grown.later z before, omega (arith, m, k)))
+                      | inr same ↦
+                          let there : number_of t z ≡ number_of t x = ap (number_of t) (sym same) in
+                          inl (inl (omega (arith, put, there, m, k, d, one)))
+                    ]
+                | inr wait ↦ inr (grown.waits y wait)
+              ]
+          | inr wait ↦ inr wait
+        ];
+      }
+
+-- where none is to get a number one frame on, it doesn't matter how far away that is
+pub any_least : (c : Netlist) (way : Way) (least more : ℕ) (s : DistanceState) → s.next ≡ []
+    → AreFollowed c way least s → AreFollowed c way more s
+any_least c way least more s none h = record {
+  within = h.within;
+  on = λ x y leads n. elim (h.on x y leads n) [
+    | inl (inl less) ↦ inl (inl less)
+    | inl (inr due) ↦ empty y (subst (λ (l : List ℕ). Contains l y) none due.0)
+    | inr wait ↦ inr wait
+  ];
+}
+
+-- where none is left at the last distance, all is spread
+pub all_spread : (c : Netlist) (way : Way) (s : DistanceState) → s.here ≡ [] → s.distance + 1 ≡ s.frames
+    → AreFollowed c way s.distance s → AreSpread c way s.frames (number_of s)
+all_spread c way s none last h = record {
+  within = λ x y leads n. elim (h.within x y leads n) [
+    | inl less ↦ less
+    | inr wait ↦ empty x (subst (λ (l : List ℕ). Contains l x) none wait)
+  ];
+  on = λ x y leads n. elim (h.on x y leads n) [
+    | inl (inl less) ↦ less
+    | inl (inr due) ↦ let m = due.1 in absurd (omega (arith, m, n, last))
+    | inr wait ↦ empty x (subst (λ (l : List ℕ). Contains l x) none wait)
+  ];
+}
+
+-- ---- one net less
+
+pub here_popped : (s : DistanceState) (x : ℕ) → AreDistances (record s { here = s.here ++ x ∷ [] }) → AreDistances s
+here_popped s x h = record {
+  few = h.few;
+  inside = h.inside;
+  most = h.most;
+  here = λ y w. h.here y (Contains-append_left s.here (x ∷ []) y w);
+  next = h.next;
+}
+
+pub here_known : (s : DistanceState) (x : ℕ) → AreDistances (record s { here = s.here ++ x ∷ [] })
+    → number_of s x ≡ s.distance
+here_known s x h = h.here x (Contains-push s.here x)
+
+pub here_inside : (s : DistanceState) (x : ℕ) → AreDistances (record s { here = s.here ++ x ∷ [] })
+    → x < length s.numbers
+here_inside s x h =
+    let e = here_known s x h in
+    let l = h.inside in
+    numbered_inside s x (omega (arith, e, l))
+
+pub next_popped : (s : DistanceState) (x : ℕ) → AreDistances (record s { next = s.next ++ x ∷ [] }) → AreDistances s
+next_popped s x h = record {
+  few = h.few;
+  inside = h.inside;
+  most = h.most;
+  here = h.here;
+  next = λ y w. h.next y (Contains-append_left s.next (x ∷ []) y w);
+}
+
+pub next_inside : (s : DistanceState) (x : ℕ) → AreDistances (record s { next = s.next ++ x ∷ [] })
+    → x < length s.numbers
+next_inside s x h = h.next x (Contains-push s.next x)
+
+-- no number
+abbrev pub fresh : ℕ → ℕ → DistanceState
+fresh nets frames = record { frames = frames; distance = 0; numbers = replicate nets frames; here = []; next = [] }
+
+pub fresh_followed : (c : Netlist) (way : Way) (nets frames : ℕ) (s : DistanceState) → s ≡ fresh nets frames
+    → AreFollowed c way 0 s
+fresh_followed c way nets frames s e =
+    subst (AreFollowed c way 0) (sym e) (none_followed c way 0 (fresh nets frames) (none_numbered frames nets))

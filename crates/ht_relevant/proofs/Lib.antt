@@ -1,0 +1,12 @@
+pub mod AlikeLaws
+pub mod ReachLaws
+pub mod RelevantLaws
+pub mod PartLaws
+pub mod PartWindowLaws
+pub mod WalkPartLaws
+pub mod DistanceLaws
+pub mod SpreadLaws
+pub mod PutLaws
+pub mod TakenLaws
+pub mod DriverLaws
+pub mod NearLaws

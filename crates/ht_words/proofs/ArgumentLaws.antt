@@ -1,0 +1,40 @@
+-- A command with more arguments.
+use Rattle.std.proofs.Common.{◌≡◌, ◌∙◌, ◌∷◌, List, [], map, false, true, ap, append_assoc, Result, Ok, Err}
+use Rattle.std.specs.Prelude.{IfOk}
+use Rattle.std.proofs.lemmas.List.{append-nil}
+use Rattle.clap.specs.Built.{AddsArg}
+use Rattle.clap.specs.Simple.{App, on_top, with_rule}
+use Rattle.clap.specs.Walk.{Rule, Text}
+use Rattle.clap.specs.Words.{app_of, rule_of}
+use Rattle.clap.specs.declared.builder.arg.Arg.{Arg}
+use Rattle.clap.specs.declared.builder.command.Command.{Command}
+use Rattle.ht_asked.specs.ByClap.{app_named, app_with}
+use Rattle.ht_asked.specs.Forms.{Form}
+use Rattle.ht_words.specs.Arguments.{rule_for, with_rules}
+
+abbrev with_all : App → List Rule → App
+with_all app rules = on_top (λ s. record s { rules = rules }) app
+
+pub with_none : (app : App) → with_rules app [] ≡ app
+with_none app = ap (with_all app) (append-nil app.top.rules)
+
+with_more : (app : App) (rule : Rule) (rest : List Rule)
+    → with_rules (with_rule app rule) rest ≡ with_rules app (rule ∷ rest)
+with_more app rule rest = ap (with_all app) (append_assoc app.top.rules (rule ∷ []) rest)
+
+pub one_more : (old new : Command) (arg : Arg) (rule : Rule) (rest : List Rule) → AddsArg old arg new → arg.global ≡ false
+    → rule_of arg ≡ rule → with_rules (app_of new) rest ≡ with_rules (app_of old) (rule ∷ rest)
+one_more old new arg rule rest adds local rule_is =
+    ap (λ (a : App). with_rules a rest) (adds.shape local)
+    ∙ with_more (app_of old) (rule_of arg) rest
+    ∙ ap (λ (r : Rule). with_rules (app_of old) (r ∷ rest)) rule_is
+
+pub defined : {E : Type 0} (name : Text) (form : Form) (plain middle : App) (r : Result Command E)
+    → middle ≡ with_rules plain (map (rule_for false) form.positionals) → plain ≡ app_named name
+    → IfOk r (λ c. app_of c ≡ with_rules middle (map (rule_for true) form.options))
+    → IfOk r (λ c. app_of c ≡ app_with name form)
+defined name form plain middle (Ok c) names is options =
+    let rules : Form → List Rule = λ f. map (rule_for true) f.options in
+    options ∙ ap (λ a. with_rules a (rules form)) names
+    ∙ ap (λ a. with_rules (with_rules a (map (rule_for false) form.positionals)) (rules form)) is
+defined name form plain middle (Err e) names is options = tt
