@@ -73,12 +73,12 @@ end
 
 /// Long texts.
 pub const LONG: &str =
-    "~# the longest chain of gates, with its lines from the end: a value goes through it
+    "~# a chain of 20,000 gates, with its lines from the end: a value goes through it
 ~run respond n t r
 ~given n
-INPUT(n65535)
+INPUT(n20001)
 OUTPUT(n1)
-~times 65534 n
+~times 20000 n
 n% = BUFF(n^)
 ~with t 0 responses vectors 1 outputs 1
 1

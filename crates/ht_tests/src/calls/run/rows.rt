@@ -179,7 +179,7 @@ fn push_numbered(
 // A text so many times, with the number of each time, from 1.
 fn repeated(alloc: Global, count: u32, text: &str) -> Result<String, AllocError> {
     let mut whole = String::new(alloc);
-    let is_numbered = text.contains('%');
+    let is_numbered = text.contains('%') || text.contains('^');
     for number in 1..=count {
         if is_numbered {
             push_numbered(alloc, &mut whole, text, number)?;
