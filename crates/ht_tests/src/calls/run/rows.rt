@@ -167,10 +167,15 @@ fn push_numbered(
     number: u32,
 ) -> Result<(), AllocError> {
     for mark in text.chars() {
-        match mark {
-            '%' => whole.push_str(format!(in alloc; "{number}")?.as_str())?,
-            '^' => whole.push_str(format!(in alloc; "{}", number.saturating_add(1))?.as_str())?,
-            _ => whole.push(mark)?,
+        if mark == '%' || mark == '^' {
+            let shown = if mark == '%' {
+                number
+            } else {
+                number.saturating_add(1)
+            };
+            whole.push_str(format!(in alloc; "{shown}")?.as_str())?;
+        } else {
+            whole.push(mark)?;
         }
     }
     Ok(())
@@ -346,16 +351,25 @@ fn is_left(desk: &MemoryDesk, how: &str, name: &str, text: &str) -> bool {
     }
 }
 
+// How many lines a text has; none where the last one breaks off.
+fn lines_in(text: &[u8]) -> Option<u64> {
+    let mut count: u64 = 0;
+    let mut is_whole = true;
+    for byte in text {
+        is_whole = *byte == b'\n';
+        if is_whole {
+            count = count.saturating_add(1);
+        }
+    }
+    if is_whole { Some(count) } else { None }
+}
+
 // Whether a file has so many lines, the first ones of a text; none where it isn't there.
 fn is_front(found: Option<&[u8]>, lines: &str, text: &[u8]) -> bool {
     match found {
-        Some(found) => match from_utf8(found) {
-            Ok(own) => {
-                lines.parse::<usize>() == Ok(own.lines().count())
-                    && (own.is_empty() || own.ends_with('\n'))
-                    && text.starts_with(found)
-            },
-            Err(_) => false,
+        Some(found) => {
+            let count = lines.parse::<u64>().ok();
+            text.starts_with(found) && count.is_some() && lines_in(found) == count
         },
         None => lines == "-",
     }
