@@ -17,13 +17,24 @@ mod words;
 use rows::first_wrong;
 use std::test::Fail;
 
-const ROWS: &[&str] = &[
+const INPUTS: &[&str] = &[
     words::ROWS,
     netlists::ROWS,
     sim::ROWS,
     sim::STARTED,
-    generate::ROWS,
     proofs::MALFORMED,
+];
+
+#[test]
+fn inputs_are_read_or_refused(rt: HostRuntime) -> Result<(), Fail> {
+    for rows in INPUTS {
+        assert_eq!(rt; first_wrong(rt.alloc(), rows)?, None);
+    }
+    Ok(())
+}
+
+const COMMANDS: &[&str] = &[
+    generate::ROWS,
     proofs::PASSING,
     check::ROWS,
     commands::ROWS,
@@ -31,8 +42,8 @@ const ROWS: &[&str] = &[
 ];
 
 #[test]
-fn runs_end_and_leave_what_is_said(rt: HostRuntime) -> Result<(), Fail> {
-    for rows in ROWS {
+fn commands_end_and_leave_what_is_said(rt: HostRuntime) -> Result<(), Fail> {
+    for rows in COMMANDS {
         assert_eq!(rt; first_wrong(rt.alloc(), rows)?, None);
     }
     Ok(())
@@ -40,8 +51,12 @@ fn runs_end_and_leave_what_is_said(rt: HostRuntime) -> Result<(), Fail> {
 
 #[test]
 fn limits_are_named(rt: HostRuntime) -> Result<(), Fail> {
-    for rows in [limits::ROWS, limits::LONG] {
-        assert_eq!(rt; first_wrong(rt.alloc(), rows)?, None);
-    }
+    assert_eq!(rt; first_wrong(rt.alloc(), limits::ROWS)?, None);
+    Ok(())
+}
+
+#[test]
+fn long_texts_are_read(rt: HostRuntime) -> Result<(), Fail> {
+    assert_eq!(rt; first_wrong(rt.alloc(), limits::LONG)?, None);
     Ok(())
 }

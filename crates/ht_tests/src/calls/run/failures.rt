@@ -64,4 +64,48 @@ write out 1|5 3 7 - 0
 open netlist 0|4 - - - 0
 create report 0|5 - - - 0
 write report 1|5 - 0 - 0
+~# each other status stays where the line on Err fails
+~run
+~mute 2
+~run norm n r
+~given n
+INPUT(=)
+~mute 3
+~run check n t r p --start s
+~given n < TOGGLE
+~given t
+0
+~given s
+0
+~mute 1
+~run sim n t r --start s
+~given n < TOGGLE
+~given t
+0
+~mute 4
+~given s
+0
+~mute 7
+~given s
+1
+~mute 8
+~run compact n t r
+~given n < SHIFT_REGISTER
+~times 4097 t
+0
+~mute 9
+~run diagnose n t s r
+~given n < SHIFT_REGISTER
+~given t
+~given s
+0
+~mute 10
+~run respond n t r --fault 7
+~given n < SHIFT_REGISTER
+~mute 12
+~run gen n t r p --faults l
+~given n < TOGGLE
+~given l
+0
+~mute 13
 ";

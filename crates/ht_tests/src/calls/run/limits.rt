@@ -46,17 +46,6 @@ g1 = AND(a~times 255 n
 INPUT(a~times 255 n
 b~with n 3 netlist: line 1: bad name
 )
-~# the longest chain of gates, with its lines from the end: a value goes through it
-~run respond n t r
-~given n
-INPUT(n65535)
-OUTPUT(n1)
-~times 65534 n
-n% = BUFF(n^)
-~with t 0 responses vectors 1 outputs 1
-1
-~left r
-1
 ~# two walks over a gate of 255 pins, of which each decides 200 inputs
 ~run report n t p r --budget 200
 ~times 255 n
@@ -82,8 +71,21 @@ hi %
 end
 ";
 
-// A comment of 16,777,216 bytes, and of one byte more.
-pub const LONG: &str = "~run norm n r
+/// Long texts.
+pub const LONG: &str =
+    "~# a chain of 20,000 gates, with its lines from the end: a value goes through it
+~run respond n t r
+~given n
+INPUT(n20001)
+OUTPUT(n1)
+~times 20000 n
+n% = BUFF(n^)
+~with t 0 responses vectors 1 outputs 1
+1
+~left r
+1
+~# a comment of 16,777,216 bytes, and of one byte more
+~run norm n r
 ~times 65536 n
 ################################################################\
     ################################################################\
@@ -92,4 +94,14 @@ pub const LONG: &str = "~run norm n r
 ~left r
 ~with n 3 netlist: too long
 #~none r
+~# an entry of 100,000 tokens, of which the second doesn't fit
+~run report n t p r
+~given n < ALWAYS_ZERO
+~given t
+~given p < FORMAT_2
+entry 3 untestable
+walk
+~times 100000 p
+hi %
+~with p 1 denied: fault 3 < END
 ";

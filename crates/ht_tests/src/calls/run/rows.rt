@@ -13,12 +13,10 @@
 //! | `ends STATUS LINE` | the run ends with this status and leaves this line, or where none is said this text, on Out where the status is 0 and else on Err; the other has none |
 //! | `with FILE STATUS LINE` | so it ends where the file goes on with this text |
 //! | `words STATUS FILE` | with each line after the first as its words it ends with this status, and the file has the first one somewhere |
-//! | `fails` | of each line, which is explained at `fails_so` |
+//! | `mute STATUS` | the run ends with this status also where the line on Err fails, and doesn't write it again |
+//! | `fails` | of each line, which is explained at `fails_so`, also where the line on Err fails |
 //! | `left FILE`, `none FILE`, `has FILE` | after the last run the file has this text, isn't there, or has this text somewhere; Out is `out` and Err `err` |
 //! | `# ..` | a remark |
-//!
-//! A run that ends with another status than 0 is made again where the line on Err fails, and has to end with the same
-//! one.
 
 use super::samples::SAMPLES;
 use ht_app::run;
@@ -181,8 +179,13 @@ fn push_numbered(
 // A text so many times, with the number of each time, from 1.
 fn repeated(alloc: Global, count: u32, text: &str) -> Result<String, AllocError> {
     let mut whole = String::new(alloc);
+    let is_numbered = text.contains('%') || text.contains('^');
     for number in 1..=count {
-        push_numbered(alloc, &mut whole, text, number)?;
+        if is_numbered {
+            push_numbered(alloc, &mut whole, text, number)?;
+        } else {
+            whole.push_str(text)?;
+        }
     }
     Ok(whole)
 }
@@ -248,22 +251,7 @@ fn run_on(
     status_of(alloc, desk, play.words)
 }
 
-// Whether a run has this status also where the line on Err fails, which isn't written again.
-fn is_mute_alike(
-    alloc: Global,
-    row: &Row<'_>,
-    play: Play<'_>,
-    status: u8,
-) -> Result<bool, AllocError> {
-    let mut desk = MemoryDesk::new(alloc);
-    let mute = Play {
-        is_mute: true,
-        ..play
-    };
-    Ok(run_on(alloc, &mut desk, row, mute)? == status && desk.err().is_empty())
-}
-
-// Whether a run has this status, also where the line on Err fails.
+// Whether a run has this status.
 fn has_status(
     alloc: Global,
     desk: &mut MemoryDesk,
@@ -271,11 +259,17 @@ fn has_status(
     play: Play<'_>,
     status: &str,
 ) -> Result<bool, AllocError> {
-    let found = run_on(alloc, desk, row, play)?;
-    if status.parse::<u8>() != Ok(found) {
-        return Ok(false);
-    }
-    Ok(found == 0 || is_mute_alike(alloc, row, play, found)?)
+    Ok(status.parse::<u8>() == Ok(run_on(alloc, desk, row, play)?))
+}
+
+// Whether a run has this status where the line on Err fails, which isn't written again.
+fn is_mute(alloc: Global, row: &Row<'_>, play: Play<'_>, status: &str) -> Result<bool, AllocError> {
+    let mut desk = MemoryDesk::new(alloc);
+    let mute = Play {
+        is_mute: true,
+        ..play
+    };
+    Ok(has_status(alloc, &mut desk, row, mute, status)? && desk.err().is_empty())
 }
 
 // Whether a text is this line, or where none is said this other text.
@@ -408,7 +402,7 @@ fn fails_so(
         fails,
         ..play_of(row.words)
     };
-    let is_so = has_status(alloc, desk, row, play, status)?;
+    let is_so = has_status(alloc, desk, row, play, status)? && is_mute(alloc, row, play, status)?;
     Ok(is_so && are_fronts(desk, whole, lines) && desk.err() == line_at(status))
 }
 
@@ -450,6 +444,7 @@ fn holds(
             };
             ends(alloc, desk, row, play, words, "")
         },
+        "mute" => is_mute(alloc, row, play_of(row.words), words),
         "words" => words_end(alloc, desk, row, words, own),
         "fails" => fail_so(alloc, desk, row, own),
         _ => Ok(is_left(desk, verb, words, own)),
