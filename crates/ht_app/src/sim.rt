@@ -10,10 +10,10 @@ ghost use Rattle.ht_app.specs.Steps.{IsPrepared};
 
 use crate::made::Made;
 use ht_faults::collapse;
-use ht_proofs::first_detections_from;
 use ht_inputs::{RunError, read_netlist, read_stated, read_tests};
 use ht_net::{Circuit, Vectors};
 use ht_ports::Desk;
+use ht_proofs::first_detections_from;
 use ht_tern::Tern;
 use ht_texts::{Sums, saids_of, write_body, write_total};
 use ht_words::FileName;

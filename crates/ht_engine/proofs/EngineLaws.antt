@@ -42,7 +42,7 @@ use Rattle.ht_engine.specs.declared.work.Work.TheVariants as work
 use Rattle.ht_engine.specs.DeepWork.{DeepWorkHolds, DetectsAfter, IsDeepWork, IsWorkBy, states_reached}
 use Rattle.ht_engine.specs.Enough.{IsEnough}
 use Rattle.ht_engine.specs.FaultWork.{IsNamedInvariant, IsWork, WorkHolds}
-use Rattle.ht_engine.specs.EngineStands.{AllHold, AreEnough, EngineStandsFor, EntryHolds, EngineView, HasGraded, HasSameWork, IsKindIn, IsSaid, IsUndetectedWith, Makes, MakesStep, MeansOfStep, all_first, kind_at, remaining}
+use Rattle.ht_engine.specs.EngineStands.{AllHold, AreEnough, EngineStandsFor, EntryHolds, EngineView, Grades, HasGraded, HasSameWork, IsKindIn, IsSaid, IsUndetectedWith, Makes, MakesStep, MeansOfStep, all_first, kind_at, remaining}
 use Rattle.ht_engine.specs.OneStep.{Advances, Ends, GivesEntry, GivesFirst, GivesList, IsNextUndetected, IsUndetected, IsWorkOn, said_by}
 use Rattle.ht_engine.specs.Steps.{AwaitsVerdict, Follows, IsChosen, IsNextFault, entries_of, one_more, one_vector, vectors_of_steps}
 use Rattle.ht_engine.proofs.DeepLaws.{deep_after, plain_after}
@@ -129,6 +129,22 @@ module _ (e : EngineView) (steps : List Step) (s : EngineStandsFor e steps) wher
       let more = length-append steps (step ∷ []) in
       let given = all_given none in
       none ∙ sym (drop_all (length (steps ++ step ∷ [])) (all_first e) (omega (arith, more, given)))
+
+-- what a grader of an engine has graded with some vectors more
+pub adds_graded : (e now : EngineView) → e ≡ now → (grader : ClassGraderView)
+    → (grader.machines.circuit ≡ e.grader.machines.circuit) × (grader.representatives ≡ e.grader.representatives)
+    → (more : List (List Bool))
+    → ((start : List Tern) (before : List (List Bool)) → ClassGraderStandsFor e.grader start before
+    → ClassGraderStandsFor grader start (before ++ more))
+    → (before : List (List Bool)) → HasGraded now before
+    → Grades e.circuit e.representatives e.settings.start (before ++ more) grader
+adds_graded e now at grader same more added before graded =
+    let here : HasGraded e before = subst (λ (v : EngineView). HasGraded v before) (sym at) graded in
+    record {
+      circuit = same.0 ∙ here.circuit;
+      representatives_same = same.1 ∙ here.representatives_same;
+      stands = added e.settings.start before here.stands;
+    }
 
 -- what is graded with one list more
 graded_more : (e new : EngineView) (steps : List Step) → EngineStandsFor e steps → (list : Rows)
@@ -219,12 +235,12 @@ module _ (e new : EngineView) (steps : List Step) (s : EngineStandsFor e steps) 
     next = is_next e steps s g.fault g.next;
     invariant = e.named_invariant;
     found = s.found;
-    given = (g.work (vectors_of_steps steps) s.graded).given;
+    given = (g.work.after (vectors_of_steps steps) s.graded).given;
   })
 
   -- the list detects the fault after the vectors of the steps
   holds : DetectsAfter e.circuit (fault_at e.circuit g.fault) e.settings.start (vectors_of_steps steps) list
-  holds = (g.work (vectors_of_steps steps) s.graded).holds
+  holds = (g.work.after (vectors_of_steps steps) s.graded).holds
 
   pub list_useful : MeansOfStep e steps (Vectors list)
   list_useful = λ all. record {
@@ -334,7 +350,7 @@ module _ (e new : EngineView) (steps : List Step) (s : EngineStandsFor e steps) 
     next = is_next e steps s fault g.next;
     invariant = e.named_invariant;
     found = s.found;
-    given = (refl, (g.work (vectors_of_steps steps) s.graded).given);
+    given = (refl, (g.work.after (vectors_of_steps steps) s.graded).given);
   })
 
   abbrev kinds_now : List (Option EntryKind)
@@ -382,9 +398,9 @@ module _ (e new : EngineView) (steps : List Step) (s : EngineStandsFor e steps) 
 
   entry_holds : EntryHolds e.circuit e.settings fault made
   entry_holds = (
-    (g.work (vectors_of_steps steps) s.graded).holds,
+    (g.work.after (vectors_of_steps steps) s.graded).holds,
     is_allowed e.settings.search e.circuit (fault_at e.circuit fault) e.settings (vectors_of_steps steps)
-        e.named_invariant s.found made (g.work (vectors_of_steps steps) s.graded).given,
+        e.named_invariant s.found made (g.work.after (vectors_of_steps steps) s.graded).given,
   )
 
   entry_stands : EngineStandsFor (record e { kinds = kinds_now; place = fault + 1 }) more
@@ -407,7 +423,7 @@ module _ (e new : EngineView) (steps : List Step) (s : EngineStandsFor e steps) 
         holds = s.holds;
         enough = subst (AreEnough e.circuit e.settings.budget e.named_invariant.clauses) same
             (all_more (λ k made. IsEnough e.circuit (fault_at e.circuit k) e.settings.budget e.named_invariant.clauses
-            (work.Entry made)) s.enough (g.work (vectors_of_steps steps) s.graded).enough);
+            (work.Entry made)) s.enough (g.work.after (vectors_of_steps steps) s.graded).enough);
       }
 
   pub entry_made : MakesStep e new steps (Entry fault made)
@@ -609,13 +625,24 @@ module _ (e now : EngineView) (listed : List Fault) (marks : List Bool) (is : Is
       pub plain_on : now.settings.search ≡ Plain → (w : Work) → IsWork bases f e.settings.budget e.named_invariant w
           → WorkHolds bases f e.settings.budget w
           → IsEnough bases f e.settings.budget e.named_invariant.clauses w → IsWorkOn now i w
-      plain_on plain w answer holds enough = λ before graded. record {
-        given = subst (λ (search : Search). IsWorkBy search now.circuit fault now.settings before now.named_invariant w)
-            (sym plain) (of_work (λ n f s invariant. IsWork n f s.budget invariant w) bases i f b got answer);
-        holds = plain_after now.circuit fault now.settings known.latches before w
-            (of_work (λ n f s invariant. WorkHolds n f s.budget w) bases i f b got holds);
-        enough = of_work (λ n f s invariant. IsEnough n f s.budget invariant.clauses w) bases i f b got enough;
-      }
+      plain_on plain w answer holds enough = record {
+        width = λ list given. (subst (WorkHolds now.circuit fault now.settings.budget) given here).width;
+        after = λ before graded. record {
+          given = subst
+              (λ (search : Search). IsWorkBy search now.circuit fault now.settings before now.named_invariant w)
+              (sym plain) (of_work (λ n f s invariant. IsWork n f s.budget invariant w) bases i f b got answer);
+          holds = plain_after now.circuit fault now.settings known.latches before w here;
+          enough = of_work (λ n f s invariant. IsEnough n f s.budget invariant.clauses w) bases i f b got enough;
+        };
+      } where
+        here : WorkHolds now.circuit fault now.settings.budget w
+        here = of_work (λ n f s invariant. WorkHolds n f s.budget w) bases i f b got holds
+
+      -- a list that the deep work gives has a bit for each input
+      deep_width : (good faulty : List Tern) (list : Rows)
+          → DeepWorkHolds now.circuit fault now.settings good faulty (work.List list) → list.width ≡ now.circuit.inputs
+      deep_width good faulty list (inl always) = always.width
+      deep_width good faulty list (inr ahead) = ahead.vectors.width
 
       -- what the deep work gives from the states reached, where the search is deep
       pub deep_on : now.settings.search ≡ Deep → (good faulty : List Tern)
@@ -625,15 +652,21 @@ module _ (e now : EngineView) (listed : List Fault) (marks : List Bool) (is : Is
           → IsDeepWork bases f e.settings (window.state_pair good faulty) e.named_invariant w
           → DeepWorkHolds bases f e.settings good faulty w
           → IsEnough bases f e.settings.budget e.named_invariant.clauses w → IsWorkOn now i w
-      deep_on deep good faulty good_is faulty_is w answer holds enough = λ before graded. record {
-        given = subst (λ (search : Search). IsWorkBy search now.circuit fault now.settings before now.named_invariant w)
-            (sym deep)
-            (subst (λ (states : window.Start). IsDeepWork now.circuit fault now.settings states now.named_invariant w)
-            (λ k. window.state_pair (good_is before graded k) (faulty_is before graded k))
-            (of_work (λ n f s invariant. IsDeepWork n f s (window.state_pair good faulty) invariant w) bases i f b got
-            answer));
-        holds = deep_after now.circuit fault now.settings known.latches before good faulty (good_is before graded)
-            (faulty_is before graded) w
-            (of_work (λ n f s invariant. DeepWorkHolds n f s good faulty w) bases i f b got holds);
-        enough = of_work (λ n f s invariant. IsEnough n f s.budget invariant.clauses w) bases i f b got enough;
-      }
+      deep_on deep good faulty good_is faulty_is w answer holds enough = record {
+        width = λ list given.
+            deep_width good faulty list (subst (DeepWorkHolds now.circuit fault now.settings good faulty) given here);
+        after = λ before graded. record {
+          given = subst
+              (λ (search : Search). IsWorkBy search now.circuit fault now.settings before now.named_invariant w)
+              (sym deep)
+              (subst (λ (states : window.Start). IsDeepWork now.circuit fault now.settings states now.named_invariant w)
+              (λ k. window.state_pair (good_is before graded k) (faulty_is before graded k))
+              (of_work (λ n f s invariant. IsDeepWork n f s (window.state_pair good faulty) invariant w) bases i f b got
+              answer));
+          holds = deep_after now.circuit fault now.settings known.latches before good faulty (good_is before graded)
+              (faulty_is before graded) w here;
+          enough = of_work (λ n f s invariant. IsEnough n f s.budget invariant.clauses w) bases i f b got enough;
+        };
+      } where
+        here : DeepWorkHolds now.circuit fault now.settings good faulty w
+        here = of_work (λ n f s invariant. DeepWorkHolds n f s good faulty w) bases i f b got holds

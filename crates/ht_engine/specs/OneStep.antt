@@ -53,9 +53,10 @@ pub record IsWorkAfter (e : EngineView) (before : List (List Bool)) (i : ℕ) (w
   pub holds : HoldsAfter e.circuit (fault_at e.circuit i) e.settings before w
   pub enough : IsEnough e.circuit (fault_at e.circuit i) e.settings.budget e.named_invariant.clauses w
 
--- What the work on fault i gives, after the vectors that the engine has graded.
-abbrev pub IsWorkOn : EngineView → ℕ → Work → Type 0
-IsWorkOn e i w = (before : List (List Bool)) → HasGraded e before → IsWorkAfter e before i w
+-- What the work on fault i gives, after the vectors that the engine has graded: a list has a bit for each input.
+pub record IsWorkOn (e : EngineView) (i : ℕ) (w : Work) : Type 0 where
+  pub width : (list : Rows) → w ≡ made.List list → list.width ≡ e.circuit.inputs
+  pub after : (before : List (List Bool)) → HasGraded e before → IsWorkAfter e before i w
 
 -- ---- the vectors that are graded
 
