@@ -60,3 +60,9 @@ fn long_texts_are_read(rt: HostRuntime) -> Result<(), Fail> {
     assert_eq!(rt; first_wrong(rt.alloc(), limits::LONG)?, None);
     Ok(())
 }
+
+#[test]
+fn an_entry_of_100000_tokens_is_read(rt: HostRuntime) -> Result<(), Fail> {
+    assert_eq!(rt; first_wrong(rt.alloc(), limits::TOKENS)?, None);
+    Ok(())
+}

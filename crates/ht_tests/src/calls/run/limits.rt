@@ -69,16 +69,6 @@ length 1
 hi %
 ~with p 0 total 257 detected 0 untestable 0 aborted 1 undetected 256
 end
-~# an entry of 100,000 tokens, of which the second doesn't fit
-~run report n t p r
-~given n < ALWAYS_ZERO
-~given t
-~given p < FORMAT_2
-entry 3 untestable
-walk
-~times 100000 p
-hi %
-~with p 1 denied: fault 3 < END
 ";
 
 /// Long texts.
@@ -104,4 +94,17 @@ n% = BUFF(n^)
 ~left r
 ~with n 3 netlist: too long
 #~none r
+";
+
+/// The longest entry that is asked for.
+pub const TOKENS: &str = "~# an entry of 100,000 tokens, of which the second doesn't fit
+~run report n t p r
+~given n < ALWAYS_ZERO
+~given t
+~given p < FORMAT_2
+entry 3 untestable
+walk
+~times 100000 p
+hi %
+~with p 1 denied: fault 3 < END
 ";
