@@ -93,6 +93,8 @@ impl<'c> Plan<'c> {
 
 const NONE: u32 = u32::MAX;
 const UNDECIDED: u8 = 3;
+/// The fewest nets of a circuit in which finding those that matter takes less time than it saves.
+const FEWEST_NETS: usize = 4_096;
 
 /// The line that is stuck, if any, by its kind.
 #[derive(Clone, Copy)]
@@ -217,7 +219,7 @@ impl<'c> Window<'c> {
     fn fill_by_events(&mut self, fault: Option<Fault>) {
         let circuit = self.plan.circuit;
         self.plan.copy_base(self.frames, &self.start, &mut self.cells);
-        if let Some(fault) = fault {
+        if let Some(fault) = fault.filter(|_| circuit.nets() >= FEWEST_NETS) {
             self.whole = false;
             self.relevant.find(self.plan, fault, self.frames, &self.start);
         }

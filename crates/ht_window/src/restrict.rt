@@ -17,6 +17,9 @@ use ht_relevant::{Relevant, find_relevant};
 use ht_tern::Tern;
 use std::alloc::{AllocError, Global};
 
+// The fewest nets of a circuit in which finding those that matter takes less time than it saves.
+const FEWEST_NETS: u32 = 4_096;
+
 // A mark for each flip-flop at which two states differ.
 fn differences(
     alloc: Global,
@@ -83,7 +86,8 @@ fn relevant_to(
     }
 }
 
-/// Leaves to a window of a fault the nets that matter. To one of the good machine all do.
+/// Leaves to a window of a fault the nets that matter. To one of the good machine all do, and in a small circuit they are
+/// not looked for.
 ///
 /// # Errors
 /// Out of memory; nothing is changed.
@@ -100,6 +104,9 @@ pub fn restrict(alloc: Global, frame_plan: &FramePlan, held: &mut Held) -> Resul
     let Some(fault) = decided.fault() else {
         return Ok(());
     };
+    if decided.circuit().nets() < FEWEST_NETS {
+        return Ok(());
+    }
     let relevant = relevant_to(alloc, decided, frame_plan, fault)?;
     held.restrict(relevant);
     Ok(())
