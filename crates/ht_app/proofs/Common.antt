@@ -12,7 +12,7 @@ pub use Rattle.ht_bench.proofs.OneLaws.{one_circuit}
 pub use Rattle.ht_bench.specs.Text.{IsNetlistOf, max_netlist_bytes}
 pub use Rattle.ht_faults.specs.Classes.{AreClasses}
 pub use Rattle.ht_demo.specs.Demo.{demo_netlist}
-pub use Rattle.ht_dictionary.specs.ObservationView.{ObservationView}
+pub use Rattle.ht_serial.specs.ObservationView.{ObservationView}
 pub use Rattle.ht_engine.specs.EngineStands.{EngineStandsFor, EngineView, HasSameWork, Makes, remaining}
 pub use Rattle.ht_engine.specs.Steps.{AreFinished, AreSteps}
 pub use Rattle.ht_engine.specs.declared.settings.Settings.{Settings}

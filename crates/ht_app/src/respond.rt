@@ -64,7 +64,7 @@ fn response_texts(
     ensures { IfOk result (λ texts. IsResponses circuit.now fault start.now list.now.list
         texts.body.items texts.last.items texts.said.items) }
 {
-    let shown = ht_dictionary::respond(alloc, circuit, fault, start, list)?;
+    let shown = ht_serial::respond(alloc, circuit, fault, start, list)?;
     let body = write_response_body(alloc, &shown)?;
     let said = write_response_total(alloc, list.len(), circuit.outputs())?;
     let last = write_last_response(alloc, &shown)?;

@@ -9,7 +9,7 @@ use Rattle.ht_net.specs.declared.place.Place.{Place}
 use Rattle.ht_net.specs.Netlist.{Netlist}
 use Rattle.ht_net.specs.Detection.{IsPlace}
 use Rattle.ht_faults.specs.Classes.{fault_at, is_representative}
-use Rattle.ht_dictionary.specs.Contradictions.{IsFirstContradiction}
+use Rattle.ht_serial.specs.Contradictions.{IsFirstContradiction}
 use Rattle.ht_dictionary.specs.Diagnoses.{contradiction_at}
 
 -- this place is what is said of fault i

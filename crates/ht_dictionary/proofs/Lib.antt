@@ -1,7 +1,4 @@
-pub mod RunLaws
 pub mod RespondLaws
-pub mod ShownLaws
-pub mod ContradictionLaws
 pub mod ConsistencyLaws
 pub mod DiagnosisLaws
 pub mod RowTextLaws

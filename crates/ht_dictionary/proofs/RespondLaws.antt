@@ -16,7 +16,7 @@ use Rattle.ht_texts.proofs.LineLaws.{coded_are_lines}
 use Rattle.ht_dictionary.specs.ResponseTexts.{tern_code, row_text, IsResponseText, IsMalformedResponse}
 use Rattle.ht_dictionary.proofs.ResponseLaws.{never_both}
 use Rattle.ht_dictionary.specs.Responses.{response_text, rows_but_last, last_row}
-use Rattle.ht_dictionary.proofs.RunLaws.{rows_count, rows_wide}
+use Rattle.ht_serial.proofs.RowLaws.{rows_count, rows_wide}
 
 -- ---- what is written is read
 

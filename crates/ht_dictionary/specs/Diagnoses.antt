@@ -2,13 +2,21 @@
 use Rattle.std.specs.Prelude.{◌≡◌, ◌<◌, ℕ, List, Bool, true, Option, Some, None, length, get_or}
 use Rattle.std.specs.Option.{ForSome}
 use Rattle.ht_tern.specs.declared.tern.Tern.{Tern}
+use Rattle.ht_tern.specs.Gate.{StandsFor}
+use Rattle.ht_net.specs.declared.fault.Fault.{Fault}
 use Rattle.ht_net.specs.declared.place.Place.{Place}
 use Rattle.ht_net.specs.Netlist.{Netlist}
-use Rattle.ht_net.specs.Detection.{IsPlace}
+use Rattle.ht_net.specs.Detection.{IsPlace, bit_at}
 use Rattle.ht_faults.specs.Sites.{faults_of}
 use Rattle.ht_faults.specs.Classes.{fault_at, is_representative}
-use Rattle.ht_dictionary.specs.Contradictions.{IsFirstContradiction}
+use Rattle.ht_serial.specs.Contradictions.{IsFirstContradiction, observed_at}
 use Rattle.ht_dictionary.specs.DiagnosisView.{DiagnosisView}
+
+-- The machine's two-valued run from a state shows each definite value that was observed.
+abbrev pub Explains : Netlist → Option Fault → List Bool → List (List Bool) → List (List Tern) → Type 0
+Explains c fault state list rows =
+    (t o : ℕ) → t < length list → o < length c.outputs
+    → StandsFor (observed_at rows t o) (bit_at c fault state list t o)
 
 -- what a diagnosis says of fault i
 abbrev pub contradiction_at : List (Option Place) → ℕ → Option Place

@@ -4,13 +4,12 @@ ghost use Rattle.std.specs.Option.{ForSome};
 ghost use Rattle.ht_net.specs.Detection.{IsPlace};
 ghost use Rattle.ht_faults.specs.Sites.{faults_of};
 ghost use Rattle.ht_faults.specs.Classes.{AreClasses, fault_at, is_representative};
-ghost use Rattle.ht_dictionary.specs.Contradictions.{IsFirstContradiction, IsObservedOver};
+ghost use Rattle.ht_serial.specs.Contradictions.{IsFirstContradiction, IsObservedOver};
 ghost use Rattle.ht_dictionary.specs.Diagnoses.{Diagnoses, IsDiagnosisOf, contradiction_at};
 
-use crate::contradiction::first_contradiction;
-use crate::observation::Observation;
 use ht_faults::{Classes, FaultList};
 use ht_net::{Circuit, Place, Vectors};
+use ht_serial::{Observation, first_contradiction};
 use std::alloc::{AllocError, Global};
 use std::marker::Model;
 

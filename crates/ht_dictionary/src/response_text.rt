@@ -1,10 +1,10 @@
 //! The text of responses.
-ghost use Rattle.std.specs.Prelude.{◌≡◌, List, IfOk, length};
+ghost use Rattle.std.specs.Prelude.{◌≡◌, IfOk};
 ghost use Rattle.ht_texts.specs.Lines.{with_lf};
 ghost use Rattle.ht_dictionary.specs.ResponseTexts.{row_text};
 ghost use Rattle.ht_dictionary.specs.Responses.{last_row, response_text, responses_line, rows_but_last};
 
-use crate::observation::Observation;
+use ht_serial::Observation;
 use ht_tern::Tern;
 use ht_texts::{push_number, tern_character};
 use std::alloc::{AllocError, Global};

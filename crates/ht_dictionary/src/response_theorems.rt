@@ -9,7 +9,7 @@ ghost use Rattle.ht_net.specs.Netlist.{Netlist, IsCircuit};
 ghost use Rattle.ht_net.specs.Detection.{IsStart, outputs_from};
 ghost use Rattle.ht_faults.specs.Sites.{faults_of};
 ghost use Rattle.ht_faults.specs.Classes.{AreClasses, fault_at};
-ghost use Rattle.ht_dictionary.specs.Contradictions.{IsFirstContradiction};
+ghost use Rattle.ht_serial.specs.Contradictions.{IsFirstContradiction};
 ghost use Rattle.ht_dictionary.specs.Diagnoses.{Diagnoses, contradiction_at};
 ghost use Rattle.ht_dictionary.specs.DiagnosisView.{DiagnosisView};
 ghost use Rattle.ht_dictionary.specs.ResponseTexts.{IsResponseText, IsMalformedResponse};

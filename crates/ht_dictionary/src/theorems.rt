@@ -1,15 +1,16 @@
 //! What a contradiction means, and which texts are responses. Each theorem is the contract of a function that does
 //! nothing.
-ghost use Rattle.std.specs.Prelude.{◌≡◌, ◌<◌, ◌≤◌, ◌+◌, ℕ, List, Bool, Option, Some, None, ◌↔◌, length, get_or};
+ghost use Rattle.std.specs.Prelude.{◌<◌, ◌≤◌, ◌+◌, ℕ, List, Bool, Option, Some, None, ◌↔◌, length, get_or};
 ghost use Rattle.ht_tern.specs.declared.tern.Tern.{Tern};
 ghost use Rattle.ht_net.specs.declared.fault.Fault.{Fault};
 ghost use Rattle.ht_net.specs.declared.place.Place.{Place};
 ghost use Rattle.ht_net.specs.Netlist.{Netlist, IsCircuit};
-ghost use Rattle.ht_net.specs.Detection.{tern_outputs, IsFirstDetection, IsState};
+ghost use Rattle.ht_net.specs.Detection.{IsState};
 ghost use Rattle.ht_faults.specs.Sites.{faults_of};
 ghost use Rattle.ht_faults.specs.Classes.{AreClasses, fault_at};
 ghost use Rattle.ht_texts.specs.Tests.{IsTooLong};
-ghost use Rattle.ht_dictionary.specs.Contradictions.{Explains, IsFirstContradiction};
+ghost use Rattle.ht_serial.specs.Contradictions.{IsFirstContradiction};
+ghost use Rattle.ht_dictionary.specs.Diagnoses.{Explains};
 ghost use Rattle.ht_dictionary.specs.ResponseTexts.{AreFirstRows, IsWrongResponse};
 ghost use Rattle.ht_dictionary.specs.ResponseTexts.{IsMalformedResponse, IsResponseOrMalformed};
 
@@ -20,13 +21,6 @@ pub fn explanations_are_consistent()
     ensures { (c : Netlist) (fault : Option Fault) (state : List Bool) (list : List (List Bool))
         (rows : List (List Tern)) → IsState c state → Explains c fault state list rows
         → IsFirstContradiction c fault list rows None }
-{}
-
-/// Where a list of vectors first detects a fault, its machine first contradicts what the good machine shows.
-pub fn detections_contradict_the_good_machine()
-    ensures { (c : Netlist) (fault : Fault) (list : List (List Bool)) (place : Option Place)
-        → IsFirstDetection c fault list place
-        ↔ IsFirstContradiction c (Some fault) list (tern_outputs c None list) place }
 {}
 
 /// What a representative first contradicts each member of its class first contradicts.

@@ -3,7 +3,7 @@ pub use Rattle.ht_asked.specs.Asked.{Asked, GenOptions, check, compact, diagnose
 pub use Rattle.ht_bench.proofs.OneLaws.{one_circuit}
 pub use Rattle.ht_bench.specs.Text.{IsNetlistOf, max_netlist_bytes}
 pub use Rattle.ht_faults.specs.Classes.{AreClasses}
-pub use Rattle.ht_dictionary.specs.ObservationView.{ObservationView}
+pub use Rattle.ht_serial.specs.ObservationView.{ObservationView}
 pub use Rattle.ht_dictionary.specs.ResponseTexts.{IsMalformedResponse, row_text}
 pub use Rattle.ht_entries.specs.ProofLines.{line_text}
 pub use Rattle.ht_entries.specs.declared.numbered.Numbered.{Numbered}

@@ -10,7 +10,7 @@ use Rattle.ht_net.specs.Netlist.{Netlist, IsCircuit}
 use Rattle.ht_faults.specs.Sites.{faults_of}
 use Rattle.ht_tern.specs.declared.tern.Tern.{Tern}
 use Rattle.ht_net.specs.Rows.{Rows}
-use Rattle.ht_dictionary.specs.ObservationView.{ObservationView}
+use Rattle.ht_serial.specs.ObservationView.{ObservationView}
 use Rattle.ht_dictionary.specs.ResponseTexts.{row_text}
 use Rattle.ht_texts.specs.StartTexts.{IsStartLine}
 use Rattle.ht_texts.specs.Tests.{IsTooLong, vector_text}

@@ -12,8 +12,9 @@ ghost use Rattle.ht_inputs.specs.Reading.{ReadStops};
 
 use crate::judged_file::{LineJudge, read_lines};
 use crate::run_error::RunError;
-use ht_dictionary::{Observation, read_row};
+use ht_dictionary::read_row;
 use ht_ports::{Desk, InPort};
+use ht_serial::Observation;
 use std::alloc::{AllocError, Global};
 
 /// The most bytes of a row's line, since a circuit has at most 65,535 outputs. A longer line is wrong.

@@ -1,20 +1,22 @@
 -- A grader that stands for a list of vectors, once one more is applied.
-use Rattle.std.proofs.Common.{◌≡◌, ◌<◌, ◌∙◌, ◌⊎◌, ℕ, zero, suc, List, [], ◌∷◌, ◌++◌, Bool, length, get_or, map, refl, ap, sym, arith, subst, Option, Some, None, inl, inr, length-append}
+use Rattle.std.proofs.Common.{◌≡◌, ◌<◌, ◌∙◌, ◌⊎◌, ℕ, List, [], ◌∷◌, ◌++◌, Bool, length, get_or, map, refl, ap, sym, arith, subst, Option, Some, None, inl, inr, length-append}
 use Rattle.std.specs.List.{slice_get}
-use Rattle.std.proofs.lemmas.List.{get_or_past, get_or_append_left, length-map, map-append}
+use Rattle.std.proofs.lemmas.List.{get_or_append_left, map-append}
 use Rattle.std.proofs.Math.Seq.{get_or-append_seam}
 use Rattle.ht_tern.specs.declared.tern.Tern.{Tern}
-use Rattle.ht_tern.specs.declared.tern.Tern.TheVariants.{Zero, One, Unk}
+use Rattle.ht_tern.specs.declared.tern.Tern.TheVariants.{Unk}
 use Rattle.ht_tern.specs.Opposite.{Opposite}
 use Rattle.ht_net.specs.declared.fault.Fault.{Fault}
 use Rattle.ht_net.specs.declared.place.Place.{Place}
 use Rattle.ht_net.specs.Netlist.{Netlist}
-use Rattle.ht_net.specs.Frame.{Rules, net_value, run_state, run_outputs, next_state, frame_outputs}
+use Rattle.ht_net.specs.Frame.{Rules, run_state, run_outputs, next_state, frame_outputs}
 use Rattle.ht_net.specs.Faults.{tern_rules}
 use Rattle.ht_net.specs.Detection.{ApartFrom, DetectsFrom, IsBefore, IsFirstFrom, output_from, outputs_from, state_from, terns_of}
 use Rattle.ht_net.proofs.FrameLaws.{le_or_lt}
-use Rattle.ht_net.proofs.ValueLaws.{seen_length}
 use Rattle.ht_net.proofs.ApartLaws.{detected_apart_from}
+use Rattle.ht_serial.proofs.ContradictionLaws.{opposite_inside, opposite_within}
+use Rattle.ht_serial.proofs.RowLaws.{rows_count}
+use Rattle.ht_serial.proofs.RunLaws.{frame_width, run_state_more}
 use Rattle.ht_group.specs.GroupView.{GroupView, FaultyMachine, good_output, faulty_output}
 use Rattle.ht_proofs.specs.PackedView.{PackedView, GraderStandsFor, verdict_at}
 use Rattle.ht_proofs.specs.Applied.{IsApplied, IsFirstSeen, IsSeen, grader_frame, machine_at}
@@ -22,34 +24,12 @@ use Rattle.ht_proofs.specs.Applied.{IsApplied, IsFirstSeen, IsSeen, grader_frame
 -- ---- runs
 
 -- a run over one more vector
-state_more : {V : Type 0} → (c : Netlist) (r : Rules V) (latches : List V) (vectors : List (List V)) (v : List V)
-    → run_state c r latches (vectors ++ v ∷ []) ≡ next_state c r v (run_state c r latches vectors)
-state_more c r latches [] v = refl
-state_more c r latches (w ∷ vectors) v = state_more c r (next_state c r w latches) vectors v
-
 outputs_more : {V : Type 0} → (c : Netlist) (r : Rules V) (latches : List V) (vectors : List (List V)) (v : List V)
     → run_outputs c r latches (vectors ++ v ∷ [])
     ≡ run_outputs c r latches vectors ++ frame_outputs c r v (run_state c r latches vectors) ∷ []
 outputs_more c r latches [] v = refl
 outputs_more c r latches (w ∷ vectors) v =
     ap (λ t. frame_outputs c r w latches ∷ t) (outputs_more c r (next_state c r w latches) vectors v)
-
-outputs_count : {V : Type 0} → (c : Netlist) (r : Rules V) (latches : List V) (vectors : List (List V))
-    → length (run_outputs c r latches vectors) ≡ length vectors
-outputs_count c r latches [] = refl
-outputs_count c r latches (w ∷ vectors) = ap suc (outputs_count c r (next_state c r w latches) vectors)
-
--- a frame shows as many values as there are outputs, and so does each frame of a run
-row_width : {V : Type 0} → (c : Netlist) (r : Rules V) (vector latches : List V)
-    → length (frame_outputs c r vector latches) ≡ length c.outputs
-unfolding frame_outputs
-row_width c r vector latches = seen_length (net_value c r vector latches) c.outputs
-
-run_width : {V : Type 0} → (c : Netlist) (r : Rules V) (latches : List V) (vectors : List (List V)) (t : ℕ)
-    → t < length vectors → length (get_or (run_outputs c r latches vectors) t []) ≡ length c.outputs
-run_width c r latches [] t h = absurd (omega arith)
-run_width c r latches (w ∷ vectors) zero h = row_width c r w latches
-run_width c r latches (w ∷ vectors) (suc t) h = run_width c r (next_state c r w latches) vectors t (omega arith)
 
 -- ---- runs of lists of bits, from a start
 
@@ -58,7 +38,7 @@ latches_more : (c : Netlist) (f : Option Fault) (start : List Tern) (list : List
     ≡ next_state c (tern_rules f) (terns_of v) (state_from c f start list)
 latches_more c f start list v =
     ap (λ (l : List (List Tern)). run_state c (tern_rules f) start l) (map-append terns_of list (v ∷ []))
-    ∙ state_more c (tern_rules f) start (map terns_of list) (terns_of v)
+    ∙ run_state_more c (tern_rules f) start (map terns_of list) (terns_of v)
 
 rows_more : (c : Netlist) (f : Option Fault) (start : List Tern) (list : List (List Bool)) (v : List Bool)
     → outputs_from c f start (list ++ v ∷ [])
@@ -66,10 +46,6 @@ rows_more : (c : Netlist) (f : Option Fault) (start : List Tern) (list : List (L
 rows_more c f start list v =
     ap (λ (l : List (List Tern)). run_outputs c (tern_rules f) start l) (map-append terns_of list (v ∷ []))
     ∙ outputs_more c (tern_rules f) start (map terns_of list) (terns_of v)
-
-rows_count : (c : Netlist) (f : Option Fault) (start : List Tern) (list : List (List Bool)) → length
-    (outputs_from c f start list) ≡ length list
-rows_count c f start list = outputs_count c (tern_rules f) start (map terns_of list) ∙ length-map list terns_of
 
 -- what is shown before the last vector, and at it
 shown_before : (c : Netlist) (f : Option Fault) (start : List Tern) (list : List (List Bool)) (v : List Bool) (t o : ℕ)
@@ -92,48 +68,19 @@ shown_last c f start list v t o h =
 
 -- ---- what is detected
 
-not_unknown : (b : Tern) → ¬ Opposite Unk b
-not_unknown Zero h = h
-not_unknown One h = h
-not_unknown Unk h = h
-
 opposite_along : (a b x y : Tern) → a ≡ x → b ≡ y → Opposite a b → Opposite x y
 opposite_along a b x y p q h = subst (λ t. Opposite x t) q (subst (λ t. Opposite t b) p h)
 
--- what is opposite stands at a value of the good row
-opposite_inside : (good : List Tern) (faulty : Tern) (o : ℕ) → Opposite (get_or good o Unk) faulty → o < length good
-opposite_inside good faulty o h = elim (le_or_lt (length good) o) [
-  | inl past ↦ absurd (not_unknown faulty (subst (λ t. Opposite t faulty) (get_or_past good o Unk past) h))
-  | inr inside ↦ inside
-]
-
 -- what is detected is detected at a vector of the list, and at an output of the circuit
 pub found_inside : (c : Netlist) (f : Fault) (start : List Tern) (list : List (List Bool)) (t o : ℕ)
-    → DetectsFrom c f start list t o
-    → t < length list
-found_inside c f start list t o d = elim (le_or_lt (length list) t) [
-  | inl past ↦
-      let none : output_from c None start list t o ≡ Unk =
-      ap (λ (row : List Tern). get_or row o Unk)
-      (get_or_past (outputs_from c None start list) t [] (omega (arith, past, rows_count c None start list))) in
-      absurd (not_unknown (output_from c (Some f) start list t o)
-      (subst (λ v. Opposite v (output_from c (Some f) start list t o)) none d))
-  | inr inside ↦ inside
-]
+    → DetectsFrom c f start list t o → t < length list
+found_inside c f start list t o d =
+    (opposite_within (output_from c None start list t o) c (Some f) start list t o d).0
 
 pub found_output : (c : Netlist) (f : Fault) (start : List Tern) (list : List (List Bool)) (t o : ℕ)
-    → DetectsFrom c f start list t o
-    → o < length c.outputs
+    → DetectsFrom c f start list t o → o < length c.outputs
 found_output c f start list t o d =
-    let inside = found_inside c f start list t o d in
-    let width = run_width c (tern_rules None) start (map terns_of list) t
-    (omega (arith, inside, length-map list terns_of)) in
-    omega (
-      arith,
-      width,
-      opposite_inside (get_or (outputs_from c None start list) t [])
-          (output_from c (Some f) start list t o) o d,
-    )
+    (opposite_within (output_from c None start list t o) c (Some f) start list t o d).1
 
 -- What the longer list detects before its last vector is what the list detects.
 detects_shorter : (c : Netlist) (f : Fault) (start : List Tern) (list : List (List Bool)) (v : List Bool) (t o : ℕ)
@@ -209,12 +156,9 @@ seen_last frame m start list v t o last at d =
 -- what is seen is seen at an output
 seen_inside : (frame : GroupView) (m : FaultyMachine) (o : ℕ) → IsSeen frame m o → o < length frame.circuit.outputs
 seen_inside frame m o h =
-    let row = frame_outputs frame.circuit (tern_rules None) frame.vector frame.latches in
-    omega (
-      arith,
-      row_width frame.circuit (tern_rules None) frame.vector frame.latches,
-      opposite_inside row (faulty_output frame m o) o h,
-    )
+    let r = tern_rules (Some m.fault) in
+    let inside = opposite_inside (good_output frame o) (frame_outputs frame.circuit r frame.vector m.latches) o h in
+    omega (arith, inside, frame_width frame.circuit r frame.vector m.latches)
 
 -- Where no vector before detects the fault, the last one decides.
 first_new : (frame : GroupView) (m : FaultyMachine) (start : List Tern) (list : List (List Bool)) (v : List Bool)

@@ -1,7 +1,9 @@
 //! The state in which a list leaves the good machine.
-ghost use Rattle.std.specs.Prelude.{◌≡◌, [], None, IfOk, length, map};
+ghost use Rattle.std.specs.Prelude.{◌≡◌, None, IfOk, length, map};
+ghost use Rattle.ht_net.specs.Detection.{terns_of, unknown_state};
+ghost use Rattle.ht_net.specs.Faults.{tern_rules};
 ghost use Rattle.ht_tree.specs.WalkBack.{wants_one};
-ghost use Rattle.ht_serial.proofs.DetectionLaws.{after_list};
+ghost use Rattle.ht_serial.specs.MachineState.{after_run, started};
 ghost use Rattle.ht_sync.specs.Synchronizing.{Synchronizes, SynchronizesTo};
 
 use ht_items::Items;
@@ -33,8 +35,10 @@ fn bits_of(alloc: Global, machine: &Machine, count: u32) -> Result<Vec<bool>, Al
 // Runs a machine over a list.
 fn run_over(machine: &mut Machine, circuit: &Circuit, list: &Vectors)
     requires width { list.now.width ≡ circuit.now.inputs }
-    requires start { machine.old ≡ after_list circuit.now None [] }
-    ensures { machine.new ≡ after_list circuit.now None list.now.list }
+    requires start { machine.old
+        ≡ started tern_rules circuit.now None (unknown_state circuit.now) }
+    ensures { machine.new ≡ after_run tern_rules circuit.now None (unknown_state circuit.now)
+        (map terns_of list.now.list) }
 {
     for t in 0..list.len() {
         machine.step(list.get(t));

@@ -1,4 +1,4 @@
-use Rattle.ht_dictionary.proofs.ShownLaws.{good_diagnosed, fault_diagnosed}
+use Rattle.ht_dictionary.proofs.ConsistencyLaws.{good_diagnosed, fault_diagnosed}
 use Rattle.ht_dictionary.proofs.response_theorems.diagnoses_of_responses.Goals as goal
 
 pub returns-clause-good : goal.returns-clause-good

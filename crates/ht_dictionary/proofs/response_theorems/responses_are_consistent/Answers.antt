@@ -1,4 +1,4 @@
-use Rattle.ht_dictionary.proofs.ShownLaws.{shown_consistent}
+use Rattle.ht_dictionary.proofs.ConsistencyLaws.{shown_consistent}
 use Rattle.ht_dictionary.proofs.response_theorems.responses_are_consistent.Goals as goal
 
 pub returns : goal.returns

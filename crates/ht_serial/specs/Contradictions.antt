@@ -1,16 +1,15 @@
 -- Where what a machine shows contradicts what was observed. A machine is the good one or has one stuck line; it runs
 -- over three values from all-unknown.
-use Rattle.std.specs.Prelude.{◌≡◌, ◌<◌, ℕ, List, [], Bool, Option, length, get_or, MatchOption}
+use Rattle.std.specs.Prelude.{◌≡◌, ℕ, List, [], Bool, Option, length, get_or, MatchOption}
 use Rattle.ht_tern.specs.declared.tern.Tern.{Tern}
 use Rattle.ht_tern.specs.declared.tern.Tern.TheVariants.{Unk}
-use Rattle.ht_tern.specs.Gate.{StandsFor}
 use Rattle.ht_tern.specs.Opposite.{Opposite}
 use Rattle.ht_net.specs.declared.fault.Fault.{Fault}
 use Rattle.ht_net.specs.declared.place.Place.{Place}
 use Rattle.ht_net.specs.Netlist.{Netlist}
 use Rattle.ht_net.specs.Rows.{Rows}
-use Rattle.ht_net.specs.Detection.{output_at, IsBefore, bit_at}
-use Rattle.ht_dictionary.specs.ObservationView.{ObservationView}
+use Rattle.ht_net.specs.Detection.{output_at, IsBefore}
+use Rattle.ht_serial.specs.ObservationView.{ObservationView}
 
 -- what was observed at output o of vector t
 abbrev pub observed_at : List (List Tern) → ℕ → ℕ → Tern
@@ -26,12 +25,6 @@ IsFirstContradiction c fault list rows place =
     MatchOption place ((t o : ℕ) → ¬ Contradicts c fault list rows t o)
     (λ p. Contradicts c fault list rows p.vector p.output
     × ((t o : ℕ) → IsBefore t o p → ¬ Contradicts c fault list rows t o))
-
--- The machine's two-valued run from a state shows each definite value that was observed.
-abbrev pub Explains : Netlist → Option Fault → List Bool → List (List Bool) → List (List Tern) → Type 0
-Explains c fault state list rows =
-    (t o : ℕ) → t < length list → o < length c.outputs
-    → StandsFor (observed_at rows t o) (bit_at c fault state list t o)
 
 -- the observation is one of the circuit's outputs at each vector of a list
 pub record IsObservedOver (c : Netlist) (list : Rows) (observation : ObservationView) : Type 0 where

@@ -2,9 +2,9 @@ use Rattle.std.proofs.Common.{◌≡◌, ◌<◌, ◌∙◌, [], List, Vec, leng
 use Rattle.std.specs.declared.alloc.Global.{Global}
 use Rattle.std.proofs.lemmas.List.{get_or-map, length-map}
 use Rattle.ht_tern.specs.declared.tern.Tern.{Tern}
-use Rattle.ht_serial.specs.GoodRunOf.{value_rows}
-use Rattle.ht_dictionary.specs.ObservationView.{ObservationView}
-use Rattle.ht_dictionary.proofs.observation.Observation.get.Goals as goal
+use Rattle.ht_serial.specs.ObservationOf.{value_rows}
+use Rattle.ht_serial.specs.ObservationView.{ObservationView}
+use Rattle.ht_serial.proofs.observation.Observation.get.Goals as goal
 
 pub returns-clause-width : goal.returns-clause-width
 returns-clause-width c =

@@ -1,11 +1,11 @@
 use Rattle.std.proofs.Common.{◌≡◌, length, take}
 use Rattle.ht_net.specs.Detection.{outputs_from}
-use Rattle.ht_dictionary.proofs.RunLaws.{after_from, of_rows}
-use Rattle.ht_dictionary.proofs.responses.respond.Given as goal
+use Rattle.ht_serial.proofs.RowLaws.{after_first, of_rows}
+use Rattle.ht_serial.proofs.responses.respond.Given as goal
 
 abbrev pub invariant-loop-t : goal.invariant-loop-t
 invariant-loop-t l = record {
-  machine : l.machine ≡ after_from l.circuit l.fn.fault l.start (take l.t l.list.list);
+  machine : l.machine ≡ after_first l.circuit l.fn.fault l.start l.list.list l.t;
   shown : l.shown ≡ of_rows (length l.circuit.outputs)
       (take l.t (outputs_from l.circuit l.fn.fault l.start l.list.list));
 }

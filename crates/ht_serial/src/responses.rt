@@ -2,9 +2,9 @@
 ghost use Rattle.std.specs.Prelude.{◌≡◌, length, IfOk};
 ghost use Rattle.ht_net.specs.Detection.{IsStart, outputs_from};
 
+use crate::machine::Machine;
 use crate::observation::Observation;
 use ht_net::{Circuit, Fault, Vectors};
-use ht_serial::Machine;
 use ht_tern::Tern;
 use std::alloc::{AllocError, Global};
 
@@ -13,8 +13,7 @@ use std::alloc::{AllocError, Global};
 /// fault it is the good machine.
 ///
 /// # Errors
-///
-/// `AllocError`: out of memory.
+/// Out of memory.
 pub fn respond(
     alloc: Global,
     circuit: &Circuit,

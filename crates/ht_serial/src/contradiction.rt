@@ -1,22 +1,20 @@
 //! The first contradiction of one machine with an observation.
-ghost use Rattle.std.specs.Prelude.{◌≡◌, ℕ, ◌<◌, length, IfOk, MatchOption};
+ghost use Rattle.std.specs.Prelude.{◌≡◌, length, IfOk};
 ghost use Rattle.std.specs.Option.{ForSome};
 ghost use Rattle.ht_net.specs.Detection.{IsPlace};
-ghost use Rattle.ht_serial.specs.Opposites.{IsOppositeAt};
-ghost use Rattle.ht_dictionary.specs.Contradictions.{IsFirstContradiction, IsObservedOver};
+ghost use Rattle.ht_serial.specs.Contradictions.{IsFirstContradiction, IsObservedOver};
+ghost use Rattle.ht_serial.specs.Opposites.{IsFirstOpposite};
 
+use crate::machine::Machine;
 use crate::observation::Observation;
 use ht_net::{Circuit, Fault, Place, Vectors};
-use ht_serial::Machine;
 use ht_tern::{Tern, is_opposite};
 use std::alloc::{AllocError, Global};
 
 // The least output where the machine shows the opposite of what was observed.
 fn first_opposite(row: &[Tern], machine: &Machine) -> Option<u32>
-    requires { length row.now ≡ length machine.now.outputs }
-    ensures { MatchOption result ((o : ℕ) → ¬ IsOppositeAt row.now machine.now.outputs o)
-        (λ p. IsOppositeAt row.now machine.now.outputs p
-        × ((o : ℕ) → o < p → ¬ IsOppositeAt row.now machine.now.outputs o)) }
+    requires { length row.now ≡ length machine.now.circuit.outputs }
+    ensures { IsFirstOpposite row.now machine.now.outputs result }
 {
     for o in 0..machine.output_count() {
         if is_opposite(row[o as usize], machine.output(o)) {
@@ -31,8 +29,7 @@ fn first_opposite(row: &[Tern], machine: &Machine) -> Option<u32>
 /// values. Without a fault it is the good machine.
 ///
 /// # Errors
-///
-/// `AllocError`: out of memory.
+/// Out of memory.
 pub fn first_contradiction(
     alloc: Global,
     circuit: &Circuit,

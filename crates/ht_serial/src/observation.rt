@@ -14,11 +14,11 @@ pub struct Observation {
 }
 
 impl Model for Observation {
-    ghost use Rattle.ht_dictionary.specs.ObservationView.{ObservationView};
+    ghost use Rattle.ht_serial.specs.ObservationView.{ObservationView};
 
     ghost Value = { ObservationView };
 
-    ghost use Rattle.ht_dictionary.specs.ObservationOf.{observation_of, AreOfWidth};
+    ghost use Rattle.ht_serial.specs.ObservationOf.{observation_of, AreOfWidth};
 
     ghost view = { observation_of };
 
@@ -39,8 +39,7 @@ impl Observation {
     /// Adds the row of the next vector.
     ///
     /// # Errors
-    ///
-    /// `AllocError`: out of memory; nothing has changed.
+    /// Out of memory; nothing has changed.
     pub fn push(&mut self, row: Vec<Tern>) -> Result<(), AllocError>
         requires { length row.items ≡ self.old.width }
         ensures ok { OnOk result
