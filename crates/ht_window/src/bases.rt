@@ -111,6 +111,25 @@ impl<'c> Bases<'c> {
         Ok(())
     }
 
+    // A new base for a start.
+    fn new_base(
+        &self,
+        alloc: Global,
+        fault: Option<Fault>,
+        frames: u32,
+        start: &Start,
+    ) -> Result<Window<'c>, AllocError>
+        requires frames { frames ≤ MAX_FRAMES }
+        requires start { IsStart self.now.circuit fault frames (start_of start.now) }
+        ensures base { IfOk result (IsBase self.now.circuit) }
+        ensures few { IfOk result (λ w. frames ≤ w.window.frames) }
+        ensures start { IfOk result (λ w. IsStart self.now.circuit None frames w.window.start) }
+    {
+        let start = start.base(alloc)?;
+        let frame_plan = self.frame_plan.clone()?;
+        Window::planned(alloc, frame_plan, None, frames, &start)
+    }
+
     // The base of a start's kind, or a new one where it has fewer frames than these.
     fn base(
         &mut self,
@@ -126,13 +145,34 @@ impl<'c> Bases<'c> {
         ensures few { IfOk result (λ w. frames ≤ w.window.frames) }
         ensures start { IfOk result (λ w. IsStart self.old.circuit None frames w.window.start) }
     {
-        match self.take(start) {
-            Some(base) if base.has_front(frames) => Ok(base),
-            _ => {
-                let start = start.base(alloc)?;
-                Window::planned(alloc, self.frame_plan.clone()?, None, frames, &start)
-            },
+        if let Some(base) = self.take(start) {
+            if base.has_front(frames) {
+                return Ok(base);
+            }
         }
+        self.new_base(alloc, fault, frames, start)
+    }
+
+    // The window of a fault from a start, made of the first frames of a base.
+    fn turned(
+        &self,
+        alloc: Global,
+        base: &Window<'c>,
+        fault: Option<Fault>,
+        frames: u32,
+        start: &Start,
+    ) -> Result<Window<'c>, AllocError>
+        requires base { IsBase self.now.circuit base.now }
+        requires few { frames ≤ base.now.window.frames }
+        requires front { IsStart self.now.circuit None frames base.now.window.start }
+        requires start { IsStart self.now.circuit fault frames (start_of start.now) }
+        ensures window { IfOk result
+            (λ w. w.window ≡ window_from self.now.circuit fault frames start.now) }
+        ensures decisions { IfOk result (λ w. w.decisions ≡ []) }
+        ensures marks { IfOk result (λ w. w.marks ≡ []) }
+    {
+        let frame_plan = self.frame_plan.clone()?;
+        base.turned(alloc, frame_plan, fault, frames, start)
     }
 
     /// A window of `frames` frames from a start, before its first decision.
@@ -155,8 +195,8 @@ impl<'c> Bases<'c> {
         ensures marks { IfOk result (λ w. w.marks ≡ []) }
     {
         let base = self.base(alloc, fault, frames, start)?;
-        let window = base.turned(alloc, self.frame_plan.clone()?, fault, frames, start)?;
+        let made = self.turned(alloc, &base, fault, frames, start);
         self.keep(base)?;
-        Ok(window)
+        made
     }
 }
