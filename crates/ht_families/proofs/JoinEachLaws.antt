@@ -1,5 +1,5 @@
 -- The sets of a family, joined with others one by one.
-use Rattle.std.proofs.Common.{IsTrue, false, ◌≡◌, ◌≢◌, ◌⊎◌, ◌<◌, ◌≤◌, ◌+◌, ◌*◌, ℕ, suc, List, [], ◌∷◌, ◌++◌, length, get_or, set, refl, sym, ◌∙◌, ap, inl, inr, arith, subst, get_or-set_other, get_or-set_same}
+use Rattle.std.proofs.Common.{IsTrue, false, ◌≡◌, ◌≢◌, ◌⊎◌, ◌<◌, ◌≤◌, ◌+◌, ◌*◌, ℕ, suc, List, [], ◌∷◌, ◌++◌, length, get_or, set, sym, ◌∙◌, ap, inl, inr, arith, subst, get_or-set_other, get_or-set_same}
 use Rattle.std.proofs.lemmas.Bool.Decides.{eqb_tells}
 use Rattle.std.proofs.lemmas.List.{length-set}
 use Rattle.std.proofs.lemmas.List.Sums.{sum_by-cons, sum_by-set}
@@ -17,16 +17,6 @@ pub record AreJoined (before other now : Family) (j : ℕ) : Type 0 where
   pub few : (k : ℕ) → k < j → length (get_or now k []) ≤ 9
   pub least : size_of before ≤ size_of now
   pub grows : ((k : ℕ) → k < j → Includes (get_or before k []) (get_or other k [])) ⊎ (size_of before < size_of now)
-
-pub none_joined : (before other : Family) → AreJoined before other before 0
-none_joined before other = record {
-  long = refl;
-  done = λ k l. absurd (omega arith);
-  rest = λ k l. refl;
-  few = λ k l. absurd (omega arith);
-  least = omega arith;
-  grows = inl (λ k l. absurd (omega arith));
-}
 
 joined_within : (s t : List Pair) → joined_set s t ≡ s → Includes s t
 joined_within s t e p i =

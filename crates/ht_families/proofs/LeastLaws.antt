@@ -92,25 +92,6 @@ pub start_long : (start : List Tern) → length (start_family start) ≡ length 
 start_long [] = refl
 start_long (v ∷ start) = ap suc (start_long start)
 
-only : (other : Family) (start : List Tern) (j : ℕ) (p : Pair)
-    → IsMember (pair (get_or start j Unk) (get_or start j Unk)) (get_or other j [])
-    → IsMember p (pair (get_or start j Unk) (get_or start j Unk) ∷ []) → IsMember p (get_or other j [])
-only other start j p h (inl e) = subst (λ (q : Pair). IsMember q (get_or other j [])) (sym e) h
-only other start j p h (inr k) = absurd k
-
-pub begins : (c : Netlist) (fault : Fault) (start : List Tern) (family : Family)
-    → length start ≡ length c.dffs → family ≡ start_family start → IsGrown c fault start family
-begins c fault start family long is =
-    subst (λ (f : Family). IsGrown c fault start f) (sym is) (record {
-      sets = start_long start ∙ long;
-      starts = λ j l. subst (λ (s : List Pair). IsMember (pair (get_or start j Unk) (get_or start j Unk)) s)
-          (sym (start_at start j l)) (inl refl);
-      within = λ other closes j l p i.
-          let n = start_long start in
-          let here = subst (λ (s : List Pair). IsMember p s) (start_at start j (omega (arith, n, l))) i in
-          only other start j p (closes.starts j (omega (arith, n, l))) here;
-    })
-
 -- what is joined is within each family that closes
 pub grows_on : (c : Netlist) (fault : Fault) (start : List Tern) (family next : Family)
     → IsGrown c fault start family → length next ≡ length family

@@ -1,8 +1,7 @@
 -- Families by rows.
-use Rattle.std.proofs.Common.{◌≡◌, ◌<◌, ◌≤◌, ◌+◌, ◌==◌, ℕ, suc, zero, List, [], ◌∷◌, map, drop, set, length, get_or, refl, sym, ◌∙◌, ap, inl, inr, arith, get_or-set_other, get_or-set_same, if◌then◌else◌}
+use Rattle.std.proofs.Common.{◌≡◌, ◌<◌, ◌≤◌, ◌+◌, ℕ, suc, zero, List, [], ◌∷◌, map, set, length, get_or, refl, ◌∙◌, ap, arith}
 use Rattle.std.specs.List.{range_with_len}
-use Rattle.std.proofs.lemmas.Bool.Decides.{eqb_tells}
-use Rattle.std.proofs.lemmas.List.{drop_more, length-map}
+use Rattle.std.proofs.lemmas.List.{length-map}
 use Rattle.std.proofs.lemmas.List.FromFn.{length-map-range_with_len}
 use Rattle.ht_tern.specs.declared.tern.Tern.{Tern}
 use Rattle.ht_pairs.specs.Pairs.{Pair}
@@ -11,24 +10,6 @@ use Rattle.ht_tree.specs.declared.family_row.FamilyRow.{FamilyRow}
 use Rattle.ht_families.specs.Families.{start_family}
 use Rattle.ht_tree.specs.FamilyRows.{dffs_of, family_of, row_set, start_set}
 use Rattle.ht_families.proofs.LeastLaws.{start_at, start_long}
-
--- a row is written
-written_at : (family : List (List Pair)) (r : FamilyRow) (j : ℕ) → r.dff < length family
-    → get_or (set family r.dff r.set) j [] ≡ (if j == r.dff then r.set else get_or family j [])
-written_at family r j l = elim (eqb_tells j r.dff) [
-  | inl e ↦
-      rw e.0 (ap (λ (i : ℕ). get_or (set family r.dff r.set) i []) e.1 ∙ get_or-set_same family r.dff r.set [] l)
-  | inr e ↦ rw e.0 (get_or-set_other family r.dff j r.set [] e.1)
-]
-
-pub row_written : (rows : List FamilyRow) (i : ℕ) (r : FamilyRow) (family before : List (List Pair)) (j : ℕ)
-    → i < length rows → r ≡ get_or rows i r → r.dff < length family
-    → row_set (drop i rows) j (get_or family j []) ≡ row_set rows j (get_or before j [])
-    → row_set (drop (i + 1) rows) j (get_or (set family r.dff r.set) j []) ≡ row_set rows j (get_or before j [])
-row_written rows i r family before j inside is known h =
-    ap (row_set (drop (i + 1) rows) j) (written_at family r j known)
-    ∙ (ap (λ (q : FamilyRow). row_set (q ∷ drop (i + 1) rows) j (get_or family j [])) is
-    ∙ (ap (λ (l : List FamilyRow). row_set l j (get_or family j [])) (sym (drop_more rows i r inside)) ∙ h))
 
 -- a list with these sets is the family
 pub listed : (F : ℕ → List Pair) (a n : ℕ) (xs : List (List Pair)) → length xs ≡ n

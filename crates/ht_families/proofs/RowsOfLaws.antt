@@ -75,14 +75,6 @@ pub record AreRows (start : List Tern) (family : List (List Pair)) (rows : List 
   pub sets : (k : ℕ) → k < j → row_set rows k (start_set start k) ≡ get_or family k []
   pub own : All (IsOwnRow start) rows
 
-pub none_yet : (start : List Tern) (family : List (List Pair)) → AreRows start family [] 0
-none_yet start family = record {
-  below = λ k d l. absurd (omega (arith, l));
-  rises = record { next = λ i l. omega (arith, l) };
-  sets = λ k l. absurd (omega (arith, l));
-  own = All-nil (IsOwnRow start);
-}
-
 pub skipped : (start : List Tern) (family : List (List Pair)) (rows : List FamilyRow) (j : ℕ)
     → AreRows start family rows j → get_or family j [] ≡ start_set start j → AreRows start family rows (j + 1)
 skipped start family rows j h same = record {

@@ -1,5 +1,5 @@
 -- A part of a window that is closed back settles to the window's cells, and its places show what the window's show.
-use Rattle.std.proofs.Common.{◌≡◌, ◌≢◌, ◌∙◌, ◌<◌, ◌≤◌, ◌+◌, ◌-◌, ℕ, suc, zero, List, [], ◌∷◌, Bool, true, false, ◌&&◌, length, get_or, refl, sym, ap, inl, inr, arith, subst}
+use Rattle.std.proofs.Common.{◌≡◌, ◌≢◌, ◌∙◌, ◌<◌, ◌≤◌, ◌+◌, ◌-◌, ℕ, suc, zero, List, [], ◌∷◌, Bool, true, length, get_or, refl, sym, ap, inl, inr, arith, subst}
 use Rattle.std.proofs.lemmas.Bool.Decides.{eqb_tells}
 use Rattle.ht_tern.specs.declared.tern.Tern.TheVariants.{Unk}
 use Rattle.ht_pairs.specs.Pairs.{Pair, pair}
@@ -8,12 +8,9 @@ use Rattle.ht_net.specs.Frame.{data_values, net_value_over, next_state}
 use Rattle.ht_net.proofs.DepthLaws.{circuit_depth}
 use Rattle.ht_net.proofs.FrameLaws.{frame_settled}
 use Rattle.ht_tree.specs.declared.token.Assign3.{Assign3}
-use Rattle.ht_tree.specs.declared.window.Spot.TheVariants.{Output, State}
-use Rattle.ht_tree.specs.Places.{set_at, spot_net}
 use Rattle.ht_tree.specs.Windows.{SearchWindow, IsWindow, cell_at, first_latches, frame_inputs, latches_at, pair_set_rules}
 use Rattle.ht_tree.proofs.PlaceLaws.{taken_at}
-use Rattle.ht_relevant.specs.Alike.{IsAlike}
-use Rattle.ht_relevant.specs.Relevant.{IsClosedBack, IsRelevant, counts_state}
+use Rattle.ht_relevant.specs.Relevant.{IsClosedBack}
 use Rattle.ht_relevant.proofs.PartLaws.{over_alike, part_is_frame}
 
 -- the latches of a frame, by what the frame before holds
@@ -84,38 +81,3 @@ module _ (w : SearchWindow) (valid : IsWindow w) (path : List Assign3) (e : ℕ 
       let gs : g < length c.gates = omega (arith, at, xs) in
       sym (right f (arg_at c g j) fs (valid.circuit.known g j gs l)
       (closed.gates f g j fs gs l (subst (λ (n : ℕ). is f n ≡ true) (sym back) h)))))
-
--- ---- places
-
-module _ (test : List Pair → Bool) (none : (set : List Pair) → IsAlike set → test set ≡ false) where
-  -- a set that is asked for only where it matters
-  asked : (b : Bool) (here there : List Pair) → (b ≡ true → here ≡ there) → (b ≡ false → IsAlike there)
-      → (b && test here) ≡ test there
-  asked true here there same alike = ap test (same refl)
-  asked false here there same alike = sym (none there (alike refl))
-
--- A test that no alike set passes, as whether a set may or must differ, at the places of a window whose part e is
--- right.
-module _ (w : SearchWindow) (valid : IsWindow w) (is : ℕ → ℕ → Bool) (relevant : IsRelevant w is)
-    (path : List Assign3) (e : ℕ → ℕ → List Pair)
-    (right : (f x : ℕ) → f < w.frames → x < net_count w.circuit → is f x ≡ true → e f x ≡ cell_at w path f x)
-    (test : List Pair → Bool) (none : (set : List Pair) → IsAlike set → test set ≡ false) where
-  -- an output passes where it matters and its set in the part passes
-  pub output_asked : (f o : ℕ) → f < w.frames → o < length w.circuit.outputs
-      → (is f (spot_net w.circuit (Output o)) && test (e f (spot_net w.circuit (Output o))))
-      ≡ test (set_at w path f (Output o))
-  output_asked f o fs os = asked test none (is f (spot_net w.circuit (Output o)))
-      (e f (spot_net w.circuit (Output o))) (set_at w path f (Output o))
-      (λ m. right f (spot_net w.circuit (Output o)) fs (valid.circuit.outputs_known o os) m)
-      (λ free. relevant.outputs f o fs os free path)
-
-  -- and so does a next state that counts
-  pub state_asked : (j : ℕ) → 0 < w.frames → j < length w.circuit.dffs → counts_state w.start j ≡ true
-      → (is 0 (spot_net w.circuit (State j))
-      && test ((pair_set_rules w.fault).data_pin j (e 0 (spot_net w.circuit (State j)))))
-      ≡ test (set_at w path 0 (State j))
-  state_asked j some js counts = asked test none (is 0 (spot_net w.circuit (State j)))
-      ((pair_set_rules w.fault).data_pin j (e 0 (spot_net w.circuit (State j)))) (set_at w path 0 (State j))
-      (λ m. ap ((pair_set_rules w.fault).data_pin j)
-      (right 0 (spot_net w.circuit (State j)) some (valid.circuit.data_known j js) m))
-      (λ free. relevant.states j js counts free path)

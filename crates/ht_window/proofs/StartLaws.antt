@@ -1,11 +1,11 @@
 -- The marks of a start, and a latch of the first frame.
-use Rattle.std.proofs.Common.{◌≡◌, ◌<◌, ◌+◌, ℕ, suc, zero, List, [], ◌∷◌, Bool, true, false, ◌||◌, cond, eqb, Option, None, get_or, refl, sym, ◌∙◌, ap, inl, inr, arith, subst}
+use Rattle.std.proofs.Common.{◌≡◌, ◌<◌, ◌+◌, ℕ, suc, zero, List, [], ◌∷◌, Bool, true, false, ◌||◌, cond, eqb, Option, get_or, refl, sym, ◌∙◌, ap, inl, inr, arith}
 use Rattle.std.proofs.lemmas.Bool.Decides.{eqb_tells}
 use Rattle.ht_tern.specs.declared.tern.Tern.{Tern}
 use Rattle.ht_pairs.specs.Pairs.{Pair}
 use Rattle.ht_net.specs.Netlist.{first_gate_net}
 use Rattle.ht_tree.specs.Decisions.{is_in, decided_value, latch_pairs}
-use Rattle.ht_tree.specs.Windows.{SearchWindow, Start, IsStart, IsWindow, one_frame, back, first_latch}
+use Rattle.ht_tree.specs.Windows.{Start, one_frame, first_latch}
 use Rattle.ht_window.specs.Starts.{marked}
 use Rattle.ht_window.specs.Standing.{Standing}
 
@@ -62,9 +62,3 @@ latch_from s z j set halves good faulty a b start is h g f low high =
     let x = g ∙ ap (decided_value s.path) low in
     let y = f ∙ ap (decided_value s.path) high in
     is ∙ ((λ k. latch_pairs (m k) (x k) (y k)) ∙ ap (λ (t : Start). first_latch s.window t s.path j) (sym start))
-
--- a window back from a cube has no fault
-pub back_good : (w : SearchWindow) → IsWindow w → (cube : List Tern) (limit : ℕ) → back cube limit ≡ w.start
-    → w.fault ≡ None
-back_good w valid cube limit start =
-    (subst (λ (s : Start). IsStart w.circuit w.fault w.frames s) (sym start) valid.start).2
