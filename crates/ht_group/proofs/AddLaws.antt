@@ -3,13 +3,15 @@ use Rattle.std.specs.Prelude.{set, flat_map, min}
 use Rattle.std.proofs.Common.{◌≡◌, ◌≢◌, ◌<◌, ◌≤◌, ◌+◌, ◌-◌, ◌*◌, ◌/◌, ◌∙◌, ℕ, List, [], ◌∷◌, ◌++◌, Bool, true, false, length, get_or, drop, ap, sym, subst, refl, arith, inl, inr}
 use Rattle.std.proofs.lemmas.Bool.{cases_eq}
 use Rattle.std.proofs.lemmas.List.{length-append, length-set, get_or-set_same, get_or-set_other}
-use Rattle.ht_net.specs.Netlist.{Netlist, net_count}
+use Rattle.ht_net.specs.Netlist.{Netlist}
 use Rattle.ht_group.specs.GroupOf.{IsGroup}
 use Rattle.ht_group.specs.GroupView.{FaultyMachine}
-use Rattle.ht_group.specs.MachineWords.{AreFilled, HasOneMore, HasSame, IsWord, machines_of}
+use Rattle.ht_group.specs.MachineWords.{AreFilled, HasOneMore, HasSame, IsWord, IsWordIn, machines_of}
+use Rattle.ht_group.specs.SharedFrames.{IsMorePending}
 use Rattle.ht_group.specs.declared.good_frame.GoodFrame.{GoodFrame}
 use Rattle.ht_group.specs.declared.group.Group.TheInside.{Inside}
 use Rattle.ht_group.specs.declared.machines.Machines.{Machines}
+use Rattle.ht_group.specs.declared.shared_frame.SharedFrame.{SharedFrame}
 use Rattle.ht_events.specs.declared.schedule.Schedule.{Schedule}
 use Rattle.ht_group.proofs.BlockLaws.{more_at}
 use Rattle.ht_group.proofs.ChangeLaws.{more_pending}
@@ -101,20 +103,22 @@ module _ (c : Netlist) (n : ℕ) (words : List Machines) (old new : Machines) (f
 -- A group is one still where the next of its words was written.
 pub written_group : (a : Inside) → IsGroup a → a.count < 256 → (old new : Machines)
     → old ≡ get_or a.words.items (a.count / 64) old → (b : Inside)
-    → record a { words = b.words; count = b.count; pending = b.pending; settled = b.settled } ≡ b
-    → b.words.items ≡ set a.words.items (a.count / 64) new
-    → ((r : ℕ) → get_or a.pending r false ≡ true → get_or b.pending r false ≡ true)
-    → IsWord a.circuit.now a.schedule a.frame b.pending new → length b.pending ≡ net_count a.circuit.now
+    → record a { frame = b.frame; words = b.words; count = b.count; settled = b.settled } ≡ b
+    → b.words.items ≡ set a.words.items (a.count / 64) new → IsMorePending a.frame b.frame → IsWordIn b.frame new
     → AreFilled b.count (set a.words.items (a.count / 64) new) → b.count ≤ 256
-    → (b.settled ≡ true → (r : ℕ) → get_or b.pending r false ≡ false) → IsGroup b
-written_group a g few old new was b same items more word marks filled most settled =
-    subst IsGroup same (is_group (record a {
+    → (b.settled ≡ true → (r : ℕ) → get_or b.frame.pending r false ≡ false) → IsGroup b
+written_group a g few old new was b same items more word filled most settled =
+    let again = sym more.same in
+    subst IsGroup
+    ((λ i. record a { frame = again i; words = b.words; count = b.count; settled = b.settled }) ∙ same)
+    (is_group (record a {
+      frame = record a.frame { pending = b.frame.pending };
       words = b.words;
       count = b.count;
-      pending = b.pending;
       settled = b.settled;
-    }) (set a.words.items (a.count / 64) new) g.circuit g.schedule g.frame items
+    }) (set a.words.items (a.count / 64) new) g.frame.circuit g.frame.schedule g.frame.good items
     (length-set a.words.items (a.count / 64) new ∙ g.word_count)
-    (written_words a.circuit.now a.count a.words.items old new g.word_count few was a.schedule a.frame a.pending
-    b.pending more g.words word)
-    filled most marks g.room g.four_room settled)
+    (written_words a.frame.circuit.now a.count a.words.items old new g.word_count few was a.frame.schedule a.frame.good
+    a.frame.pending b.frame.pending more.more g.words
+    (subst (λ (f : SharedFrame). IsWordIn f new) more.same word))
+    filled most more.marks g.room g.four_room settled)

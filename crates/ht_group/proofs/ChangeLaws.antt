@@ -309,7 +309,7 @@ same_machines c s pending used old new ran w d = elim (cases_lt w used) [
 ]
 
 -- A net is evaluated, and those that aren't pending have their values: the machines run on.
-pub computed_running : (c : Netlist) (s : Schedule) (before pending : List Bool) (x : ℕ) (changed : Bool)
+computed_running : (c : Netlist) (s : Schedule) (before pending : List Bool) (x : ℕ) (changed : Bool)
     (old new : Machines) → AreRunning c s before old → IsComputed c x changed old new
     → QuietHaveValues c s old.lines.faults.items old.sources.words pending new.nets.words → AreRunning c s pending new
 computed_running c s before pending x changed old new running done quiet = record {

@@ -80,15 +80,16 @@ module _ (c : Netlist) (s : Schedule) (frame : GoodFrame) (pending : List Bool) 
       (drop c.inputs ((laid.spare k free below ∙ laid.sources) i)) x)
 
 module _ (a : Inside) (g : IsGroup a) where
-  pub good_of : (x : ℕ) → x < net_count a.circuit.now → get_or a.frame.values.items x Unk ≡ good_value (group_of a) x
-  good_of x inside = g.frame.values x inside
+  pub good_of : (x : ℕ) → x < net_count a.frame.circuit.now
+      → get_or a.frame.good.values.items x Unk ≡ good_value (group_of a) x
+  good_of x inside = g.frame.good.values x inside
 
   pub group_count : length (group_of a).machines ≡ a.count
   group_count =
       let n = g.word_count in
       let few = g.few in
-      all_count (machines_of a.circuit.now) a.words.items a.count (omega (arith, n, few))
-      (filled_machines a.circuit.now a.count a.words.items g.filled)
+      all_count (machines_of a.frame.circuit.now) a.words.items a.count (omega (arith, n, few))
+      (filled_machines a.frame.circuit.now a.count a.words.items g.filled)
 
   pub group_room : (v : GroupView) → group_of a ≡ v → length v.machines < 256 → a.count < 256
   group_room v is room =
@@ -111,12 +112,12 @@ module _ (a : Inside) (g : IsGroup a) where
     abbrev m : Machines
     m = get_or a.words.items w d
 
-    pub word_room : length m.nets.good ≡ net_count a.circuit.now
+    pub word_room : length m.nets.good ≡ net_count a.frame.circuit.now
     word_room =
         let n = g.word_count in
         (g.words w d (let i = word_inside w used in omega (arith, i, n))).room.nets
 
-    pub word_stuck : AreStuck a.circuit.now m.lines
+    pub word_stuck : AreStuck a.frame.circuit.now m.lines
     word_stuck =
         let n = g.word_count in
         (g.words w d (let i = word_inside w used in omega (arith, i, n))).room.stuck
@@ -124,20 +125,20 @@ module _ (a : Inside) (g : IsGroup a) where
     pub word_filled : length m.lines.faults.items ≡ min 64 (a.count - 64 * w)
     word_filled = g.filled w d (word_inside w used)
 
-    pub word_laid : IsLaid a.circuit.now a.schedule a.frame a.pending m
+    pub word_laid : IsLaid a.frame.circuit.now a.frame.schedule a.frame.good a.frame.pending m
     word_laid =
         let n = g.word_count in
         let word = g.words w d (let i = word_inside w used in omega (arith, i, n)) in
-        word.laid (has_laid a.circuit.now a.schedule a.frame a.pending m
+        word.laid (has_laid a.frame.circuit.now a.frame.schedule a.frame.good a.frame.pending m
         (let f = word_filled in omega (arith, f, used)) word)
 
     pub word_machine : (k : ℕ) → k < 64 → slice_get (group_of a).machines (64 * w + k)
-        ≡ slice_get (machines_of a.circuit.now m) k
+        ≡ slice_get (machines_of a.frame.circuit.now m) k
     word_machine k below =
         let n = g.word_count in
         let few = g.few in
-        item_at (machines_of a.circuit.now) a.words.items a.count w k d below (word_inside w used)
-        (omega (arith, n, few)) (filled_machines a.circuit.now a.count a.words.items g.filled)
+        item_at (machines_of a.frame.circuit.now) a.words.items a.count w k d below (word_inside w used)
+        (omega (arith, n, few)) (filled_machines a.frame.circuit.now a.count a.words.items g.filled)
 
     -- what was read of a net in it
     pub word_read : (v : GroupView) → group_of a ≡ v → (read : Machines) → read ≡ m → (words : List Lanes) (x i : ℕ)
@@ -158,7 +159,8 @@ module _ (a : Inside) (g : IsGroup a) where
         subst (λ (u : GroupView). u.settled ≡ true → (x : ℕ) → x < net_count u.circuit → (k : ℕ) (o : FaultyMachine)
         → k < 64 → slice_get u.machines (64 * w + k) ≡ Some o → lane_env k m.nets.words x ≡ faulty_value u o x) view
         (λ settled x inside k o below has.
-        machine_value a.circuit.now a.schedule a.frame a.pending m g.circuit g.schedule word_laid (g.settled settled) x
+        machine_value a.frame.circuit.now a.frame.schedule a.frame.good a.frame.pending m g.frame.circuit
+        g.frame.schedule word_laid (g.settled settled) x
         inside k below o (sym (word_machine k below) ∙ has))
 
     free_lane : (k : ℕ) → k < 64 → length (group_of a).machines ≤ 64 * w + k → length m.lines.faults.items ≤ k
@@ -173,14 +175,15 @@ module _ (a : Inside) (g : IsGroup a) where
         subst (λ (u : GroupView). u.settled ≡ true → (x : ℕ) → x < net_count u.circuit → (k : ℕ) → k < 64
         → length u.machines ≤ 64 * w + k → lane_env k m.nets.words x ≡ good_value u x) view
         (λ settled x inside k below past.
-        spare_value a.circuit.now a.schedule a.frame a.pending m g.circuit g.schedule word_laid (g.settled settled) x
+        spare_value a.frame.circuit.now a.frame.schedule a.frame.good a.frame.pending m g.frame.circuit g.frame.schedule
+        word_laid (g.settled settled) x
         inside k below (free_lane k below past))
 
     -- the fault of a lane, or none
     pub fault_of : (k : ℕ) (o : FaultyMachine) → k < 64 → slice_get (group_of a).machines (64 * w + k) ≡ Some o
         → slice_get m.lines.faults.items k ≡ Some o.fault
     fault_of k o below has =
-        (machine_at 0 m.lines.faults.items (drop a.circuit.now.inputs m.sources.words) k o
+        (machine_at 0 m.lines.faults.items (drop a.frame.circuit.now.inputs m.sources.words) k o
         (sym (word_machine k below) ∙ has)).fault
 
     pub spare_lane : (k : ℕ) → k < 64 → length (group_of a).machines ≤ 64 * w + k

@@ -1,4 +1,3 @@
-pub mod DifferenceLaws
 pub mod DriveLaws
 pub mod InLaneLaws
 pub mod StuckLaws

@@ -13,13 +13,15 @@ use Rattle.ht_events.specs.Schedules.{IsSchedule}
 use Rattle.ht_group.specs.declared.good_frame.GoodFrame.{GoodFrame}
 use Rattle.ht_group.specs.declared.group.Group.TheInside.{Inside}
 use Rattle.ht_group.specs.declared.machines.Machines.{Machines}
+use Rattle.ht_group.specs.declared.shared_frame.SharedFrame.{SharedFrame}
 use Rattle.ht_events.specs.declared.schedule.Schedule.{Schedule}
 use Rattle.ht_group.specs.declared.stuck_lines.StuckLines.{StuckLines}
 use Rattle.ht_group.proofs.BlockLaws.{none_left, same_all}
 use Rattle.ht_group.proofs.ChangeLaws.{bare_word, ran_word, restored_word, still_word}
 use Rattle.ht_group.proofs.GroupLaws.{filled_machines}
 
-none_marked : (n r : ℕ) → get_or (replicate n false) r false ≡ false
+-- no number is marked in a set of none
+pub none_marked : (n r : ℕ) → get_or (replicate n false) r false ≡ false
 none_marked n r = elim (cases_lt r n) [
   | inl inside ↦ get_or-replicate n r false false inside
   | inr past ↦ get_or_past (replicate n false) r false (let e = length-replicate n false in omega (arith, past, e))
@@ -30,30 +32,37 @@ abbrev pub AreWords : Netlist → Schedule → GoodFrame → List Bool → List 
 AreWords c s frame pending words = (w : ℕ) (d : Machines) → w < 4 → IsWord c s frame pending (get_or words w d)
 
 -- a group, by what its words are
-pub is_group : (b : Inside) (words : List Machines) → IsCircuit b.circuit.now → IsSchedule b.circuit.now b.schedule
-    → IsGoodFrame b.circuit.now b.frame → b.words.items ≡ words → length words ≡ 4
-    → AreWords b.circuit.now b.schedule b.frame b.pending words → AreFilled b.count words → b.count ≤ 256
-    → length b.pending ≡ net_count b.circuit.now → length b.pins.items ≡ 256 → length b.fours.items ≡ 256
-    → (b.settled ≡ true → (r : ℕ) → get_or b.pending r false ≡ false) → IsGroup b
+pub is_group : (b : Inside) (words : List Machines) → IsCircuit b.frame.circuit.now
+    → IsSchedule b.frame.circuit.now b.frame.schedule
+    → IsGoodFrame b.frame.circuit.now b.frame.good → b.words.items ≡ words → length words ≡ 4
+    → AreWords b.frame.circuit.now b.frame.schedule b.frame.good b.frame.pending words → AreFilled b.count words
+    → b.count ≤ 256
+    → length b.frame.pending ≡ net_count b.frame.circuit.now → length b.pins.items ≡ 256 → length b.fours.items ≡ 256
+    → (b.settled ≡ true → (r : ℕ) → get_or b.frame.pending r false ≡ false) → IsGroup b
 is_group b words circuit schedule frame is four each filled few marks room four_room settled = record {
-  circuit = circuit;
-  schedule = schedule;
-  frame = frame;
+  frame = record { circuit = circuit; schedule = schedule; good = frame; marks = marks };
   word_count = ap (λ (l : List Machines). length l) is ∙ four;
-  words = subst (λ (l : List Machines). AreWords b.circuit.now b.schedule b.frame b.pending l) (sym is) each;
+  words = subst (λ (l : List Machines). AreWords b.frame.circuit.now b.frame.schedule b.frame.good b.frame.pending l)
+      (sym is) each;
   filled = subst (λ (l : List Machines). AreFilled b.count l) (sym is) filled;
   few = few;
-  marks = marks;
   room = room;
   four_room = four_room;
   settled = settled;
 }
 
+-- and by a frame that is the same
+pub in_frame : (b : Inside) (frame : SharedFrame) → b.frame ≡ frame → IsGroup (record b { frame = frame }) → IsGroup b
+in_frame b frame same group = subst (λ (f : SharedFrame). IsGroup (record b { frame = f })) (sym same) group
+
 -- where no net is pending
-pub still_group : (b : Inside) (words : List Machines) (n : ℕ) → IsCircuit b.circuit.now
-    → IsSchedule b.circuit.now b.schedule → IsGoodFrame b.circuit.now b.frame → b.words.items ≡ words
-    → length words ≡ 4 → AreWords b.circuit.now b.schedule b.frame b.pending words → AreFilled b.count words
-    → b.count ≤ 256 → b.pending ≡ replicate n false → n ≡ net_count b.circuit.now → length b.pins.items ≡ 256
+pub still_group : (b : Inside) (words : List Machines) (n : ℕ) → IsCircuit b.frame.circuit.now
+    → IsSchedule b.frame.circuit.now b.frame.schedule → IsGoodFrame b.frame.circuit.now b.frame.good
+    → b.words.items ≡ words
+    → length words ≡ 4 → AreWords b.frame.circuit.now b.frame.schedule b.frame.good b.frame.pending words
+    → AreFilled b.count words
+    → b.count ≤ 256 → b.frame.pending ≡ replicate n false → n ≡ net_count b.frame.circuit.now
+    → length b.pins.items ≡ 256
     → length b.fours.items ≡ 256 → IsGroup b
 still_group b words n circuit schedule frame is four each filled few none marks room four_room =
     is_group b words circuit schedule frame is four each filled few

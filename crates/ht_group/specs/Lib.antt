@@ -9,5 +9,6 @@ pub mod Pending
 pub mod GoodFrames
 pub mod NetValues
 pub mod LatchWords
+pub mod SharedFrames
 pub mod MachineWords
 pub mod GroupOf

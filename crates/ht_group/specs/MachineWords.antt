@@ -1,6 +1,7 @@
 -- Up to 64 machines in a word, in a frame and over a set of pending nets that other words share.
 use Rattle.std.specs.Prelude.{◌≡◌, ◌≢◌, ◌<◌, ◌≤◌, ◌+◌, ◌-◌, ◌*◌, ◌++◌, ◌∷◌, [], ℕ, List, Bool, Some, true, false, min, length, get_or, take, drop}
 use Rattle.ht_group.specs.declared.diffs.Diff.{Diff}
+use Rattle.ht_group.specs.Differences.{with_differences}
 use Rattle.ht_lanes.specs.Lanes.{Lanes}
 use Rattle.ht_net.specs.declared.fault.Fault.{Fault}
 use Rattle.ht_net.specs.Netlist.{Netlist, first_gate_net, net_count}
@@ -12,6 +13,7 @@ use Rattle.ht_group.specs.Pending.{AreGiven, QuietHaveValues}
 use Rattle.ht_group.specs.StuckTables.{AreGateLanes, AreStuck, forced_net_of}
 use Rattle.ht_group.specs.declared.good_frame.GoodFrame.{GoodFrame}
 use Rattle.ht_group.specs.declared.machines.Machines.{Machines}
+use Rattle.ht_group.specs.declared.shared_frame.SharedFrame.{SharedFrame}
 use Rattle.ht_events.specs.declared.schedule.Schedule.{Schedule}
 
 -- the machines of lanes k, k + 1, .., by their faults and the words of the latches
@@ -52,6 +54,17 @@ pub record IsWord (c : Netlist) (s : Schedule) (frame : GoodFrame) (pending : Li
   pub room : HasWordRoom c m
   pub bare : m.laid ≡ false → m.lines.faults.items ≡ []
   pub laid : m.laid ≡ true → IsLaid c s frame pending m
+
+-- the same in a frame that words share
+abbrev pub IsWordIn : SharedFrame → Machines → Type 0
+IsWordIn frame m = IsWord frame.circuit.now frame.schedule frame.good frame.pending m
+
+-- a machine whose latches are the good ones of a frame but for differences
+abbrev pub machine_but : SharedFrame → Fault → List Diff → FaultyMachine
+machine_but frame fault diffs = record {
+  fault = fault;
+  latches = with_differences (drop frame.circuit.now.inputs frame.good.sources.items) diffs;
+}
 
 -- words are filled in turn: word w has what is left of n machines after those before it, up to 64
 abbrev pub AreFilled : ℕ → List Machines → Type 0

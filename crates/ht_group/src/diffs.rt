@@ -1,6 +1,6 @@
 //! Differing latches in a short list.
-ghost use Rattle.std.specs.Prelude.{◌≡◌, ◌<◌, ◌^◌, [], ◌∷◌, ◌++◌, length, IfOk, OnOk, OnErr};
-ghost use Rattle.ht_group.specs.Differences.{differences, held};
+ghost use Rattle.std.specs.Prelude.{◌≡◌, [], ◌∷◌, ◌++◌, IfOk, OnOk, OnErr};
+ghost use Rattle.ht_group.specs.Differences.{held};
 
 use ht_tern::Tern;
 use smallvec::SmallVec;
@@ -96,28 +96,5 @@ impl Diffs {
     {
         let entries = SmallVec::from_slice(*self.entries.allocator(), self.entries.as_slice())?;
         Ok(Diffs { entries })
-    }
-
-    /// Holds what the faulty state has where it isn't the good one, in the order of the flip-flops, and nothing else.
-    ///
-    /// # Errors
-    /// Out of memory; the differences are as before.
-    pub fn set_from(&mut self, good: &[Tern], faulty: &[Tern]) -> Result<(), AllocError>
-        requires same { length good.now ≡ length faulty.now }
-        requires few { length good.now < 2 ^ 32 }
-        ensures ok { OnOk result (self.new ≡ differences 0 good.now faulty.now) }
-        ensures err { OnErr result (self.new ≡ self.old) }
-    {
-        let mut entries = SmallVec::new(*self.entries.allocator());
-        for j in 0..good.len() {
-            if faulty[j] != good[j] {
-                entries.push(Diff {
-                    latch: j as u32,
-                    value: faulty[j],
-                })?;
-            }
-        }
-        self.entries = entries;
-        Ok(())
     }
 }

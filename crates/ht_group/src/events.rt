@@ -6,6 +6,7 @@ ghost use Rattle.ht_group.specs.GroupView.{max_words};
 ghost use Rattle.ht_group.specs.LaneRules.{lane_env};
 ghost use Rattle.ht_group.specs.MachineWords.{AreFirstChanged, AreRunning, HasRunRoom, HaveRunRoom, HaveRun, IsComputed};
 ghost use Rattle.ht_group.specs.Pending.{AreGiven, IsFired};
+ghost use Rattle.ht_group.specs.SharedFrames.{IsSharedFrame};
 ghost use Rattle.ht_group.specs.declared.machines.Machines.{Machines};
 ghost use Rattle.ht_events.specs.Schedules.{IsSchedule};
 ghost use Rattle.ht_group.specs.StuckTables.{AreStuck};
@@ -14,6 +15,7 @@ use crate::evaluate::{PIN_ROOM, evaluate};
 use crate::four_words::{are_free, recompute_four};
 use crate::machines::Machines;
 use crate::overlay::Overlay;
+use crate::shared_frame::SharedFrame;
 use crate::stuck_lines::StuckLines;
 use ht_events::Schedule;
 use ht_items::BitSet;
@@ -199,9 +201,8 @@ fn settle_word(
     evaluated
 }
 
-/// Evaluates each net that is pending in the first words, in the order of the schedule, and then those that read what
-/// changed. None is left, and none is evaluated twice. Says how many evaluations of gates these were, one a word.
-pub fn settle(
+// The same where there are more words.
+fn settle_words(
     circuit: &Circuit,
     schedule: &Schedule,
     words: &mut [Machines],
@@ -224,9 +225,6 @@ pub fn settle(
     ensures none { (r : ℕ) → get_or pending.new r false ≡ false }
     ensures steps { result ≤ length circuit.now.gates * used }
 {
-    if used == 1 {
-        return settle_word(circuit, schedule, &mut words[0], pending, pins);
-    }
     let mut evaluated = 0;
     let mut from = 0;
     while let Some(rank) = pending.next(from) {
@@ -236,4 +234,44 @@ pub fn settle(
         from = rank + 1;
     }
     evaluated
+}
+
+/// Evaluates each net that is pending in the first words, in the order of the schedule, and then those that read what
+/// changed. None is left, and none is evaluated twice. Says how many evaluations of gates these were, one a word.
+pub fn settle(
+    frame: &mut SharedFrame,
+    words: &mut [Machines],
+    used: u32,
+    pins: &mut [Word],
+    fours: &mut [[Word; 4]],
+) -> u32
+    requires frame { IsSharedFrame frame.old }
+    requires used { used ≤ length words.old }
+    requires few { used ≤ max_words }
+    requires runs { (w : ℕ) (d : Machines) → w < used → AreRunning frame.old.circuit.now
+        frame.old.schedule frame.old.pending (get_or words.old w d) }
+    requires pins { length pins.old ≡ PIN_ROOM }
+    requires fours { length fours.old ≡ PIN_ROOM }
+    ensures words { AreFirstChanged used
+        (HaveRun frame.old.circuit.now frame.old.schedule frame.new.pending)
+        words.old words.new }
+    ensures frame { frame.new ≡ record frame.old { pending = frame.new.pending } }
+    ensures marks { length frame.new.pending ≡ length frame.old.pending }
+    ensures none { (r : ℕ) → get_or frame.new.pending r false ≡ false }
+    ensures steps { result ≤ length frame.old.circuit.now.gates * used }
+{
+    let circuit = frame.circuit;
+    let schedule = &frame.schedule;
+    if used == 1 {
+        return settle_word(circuit, schedule, &mut words[0], &mut frame.pending, pins);
+    }
+    settle_words(
+        circuit,
+        schedule,
+        words,
+        used,
+        &mut frame.pending,
+        pins,
+        fours,
+    )
 }

@@ -9,7 +9,7 @@ ghost use Rattle.ht_items.specs.Bits.{is_set};
 ghost use Rattle.ht_lanes.specs.Lanes.{lane};
 ghost use Rattle.ht_group.specs.Differences.{with_differences};
 ghost use Rattle.ht_group.specs.GroupView.{AreLatches, FaultyMachine, HasSite, faulty_next, faulty_output, good_next, good_output, lane_count, max_machines, max_words, words_for};
-ghost use Rattle.ht_group.specs.MachineWords.{AreFirstChanged, AreMachinesKept, HasWordRoom, IsBare, IsRestored};
+ghost use Rattle.ht_group.specs.MachineWords.{AreFirstChanged, HasWordRoom, IsBare, IsRestored};
 ghost use Rattle.ht_group.specs.declared.machines.Machines.{Machines};
 ghost use Rattle.ht_group.specs.GoodFrames.{HasFrameRoom};
 ghost use Rattle.ht_group.specs.NetValues.{IsNetAt, faulty_value, good_value};
@@ -19,8 +19,7 @@ use crate::evaluate::PIN_ROOM;
 use crate::events::settle;
 use crate::good_frame::GoodFrame;
 use crate::machines::Machines;
-use ht_events::Schedule;
-use ht_items::BitSet;
+use crate::shared_frame::SharedFrame;
 use ht_lanes::Word;
 use ht_net::{Circuit, Fault, NetId};
 use ht_tern::Tern;
@@ -40,16 +39,12 @@ const MAX_WORDS: u32 = 4;
 /// of word w.
 #[derive(Drop)]
 pub struct Group<'c> {
-    circuit: &'c Circuit,
-    schedule: Schedule,
-    // the good machine's frame
-    frame: GoodFrame,
+    // the good machine's frame, and the nets that may not have their value
+    frame: SharedFrame<'c>,
     // the machines of each word; words are filled in turn
     words: Vec<Machines>,
     // how many machines there are
     count: u32,
-    // the ranks of nets that may not have their value
-    pending: BitSet,
     // whether no net is pending
     settled: bool,
     // room for the pins of one gate, in one word and in four
@@ -130,16 +125,12 @@ impl<'c> Group<'c> {
         ensures circuit { IfOk result (λ group. group.circuit ≡ circuit.now) }
         ensures none { IfOk result (λ group. group.machines ≡ []) }
     {
-        let schedule = Schedule::new(alloc, circuit)?;
-        let frame = GoodFrame::new(alloc, circuit)?;
-        let words = new_words(alloc, circuit, &frame)?;
+        let frame = SharedFrame::new(alloc, circuit)?;
+        let words = new_words(alloc, frame.circuit, &frame.good)?;
         Ok(Group {
-            circuit,
-            schedule,
             frame,
             words,
             count: 0,
-            pending: BitSet::new(alloc, circuit.nets())?,
             settled: true,
             pins: vec![in alloc; Word::splat(Tern::Unk); PIN_ROOM]?,
             fours: vec![in alloc; [Word::splat(Tern::Unk); 4]; PIN_ROOM]?,
@@ -158,10 +149,11 @@ impl<'c> Group<'c> {
           settled = true;
         } }
     {
-        self.frame.start(self.circuit, vector, latches);
-        begin_words(self.circuit, &mut self.words);
+        let circuit = self.frame.circuit;
+        self.frame.good.start(circuit, vector, latches);
+        begin_words(circuit, &mut self.words);
         self.count = 0;
-        self.pending.clear();
+        self.frame.pending.clear();
         self.settled = true;
     }
 
@@ -199,14 +191,7 @@ impl<'c> Group<'c> {
         ensures err { OnErr result (self.new ≡ self.old) }
     {
         let w = (self.count / LANES) as usize;
-        self.words[w].admit(
-            self.circuit,
-            &self.schedule,
-            &self.frame,
-            fault,
-            diffs,
-            &mut self.pending,
-        )?;
+        self.words[w].admit(&mut self.frame, fault, diffs)?;
         self.count += 1;
         self.settled = false;
         Ok(())
@@ -224,11 +209,9 @@ impl<'c> Group<'c> {
         ensures err { OnErr result (self.new ≡ self.old) }
     {
         let evaluated = settle(
-            self.circuit,
-            &self.schedule,
+            &mut self.frame,
             &mut self.words,
             words_for(self.count),
-            &mut self.pending,
             &mut self.pins,
             &mut self.fours,
         );
@@ -240,9 +223,9 @@ impl<'c> Group<'c> {
     pub fn clear(&mut self)
         ensures { self.new ≡ record self.old { machines = []; settled = true } }
     {
-        clear_words(self.circuit, &mut self.words, words_for(self.count));
+        clear_words(self.frame.circuit, &mut self.words, words_for(self.count));
         self.count = 0;
-        self.pending.clear();
+        self.frame.pending.clear();
         self.settled = true;
     }
 
@@ -252,7 +235,7 @@ impl<'c> Group<'c> {
         ensures values { (x : ℕ) → x < net_count self.now.circuit
             → get_or result.now x Unk ≡ good_value self.now x }
     {
-        &self.frame.values
+        &self.frame.good.values
     }
 
     // The good machine's value of a net.
@@ -260,7 +243,7 @@ impl<'c> Group<'c> {
         requires { net.0 < net_count self.now.circuit }
         ensures { result ≡ good_value self.now net.0 }
     {
-        self.frame.values[net.index()]
+        self.frame.good.values[net.index()]
     }
 
     // The value of a net in each machine of a word; a lane without a machine has the good one.
@@ -284,8 +267,8 @@ impl<'c> Group<'c> {
         ensures { IsNetAt self.now.circuit self.now.circuit.outputs o result }
     {
         // for the proof: the circuit is well formed
-        let _ = self.circuit.nets();
-        self.circuit.output(o)
+        let _ = self.frame.circuit.nets();
+        self.frame.circuit.output(o)
     }
 
     // The net at the data pin of a flip-flop.
@@ -294,8 +277,8 @@ impl<'c> Group<'c> {
         ensures { IsNetAt self.now.circuit self.now.circuit.dffs j result }
     {
         // for the proof: the circuit is well formed
-        let _ = self.circuit.nets();
-        self.circuit.dff_data(j)
+        let _ = self.frame.circuit.nets();
+        self.frame.circuit.dff_data(j)
     }
 
     /// What the good machine shows at an output.
@@ -343,6 +326,8 @@ impl<'c> Group<'c> {
             → lane result k ≡ good_next self.now j }
     {
         let word = self.word(w, self.data_net(j));
-        self.words[w as usize].lines.data_pin(self.circuit, j, word)
+        self.words[w as usize]
+            .lines
+            .data_pin(self.frame.circuit, j, word)
     }
 }

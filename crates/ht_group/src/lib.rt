@@ -12,7 +12,6 @@
 //! differences is the faulty one (state differences, as in PROOFS 1992). Contracts see the list of them.
 #![tactic(auto)]
 
-mod difference_theorems;
 mod diffs;
 mod evaluate;
 mod events;
@@ -21,8 +20,8 @@ mod good_frame;
 mod group;
 mod machines;
 mod overlay;
+mod shared_frame;
 mod stuck_lines;
 
-pub use difference_theorems::differences_give_the_state;
 pub use diffs::{Diff, Diffs};
 pub use group::{Group, LANES, MAX_MACHINES};

@@ -1,19 +1,20 @@
 //! The machines of a word, one a lane.
-ghost use Rattle.std.specs.Prelude.{◌≡◌, ◌≢◌, ◌<◌, ◌+◌, ◌&&◌, ◌==◌, [], ℕ, Some, true, false, length, get_or, set, drop, if◌then◌else◌, IfOk, OnOk, OnErr};
-ghost use Rattle.ht_net.specs.Netlist.{IsCircuit, first_gate_net, net_count};
-ghost use Rattle.ht_group.specs.Differences.{with_differences};
-ghost use Rattle.ht_group.specs.GoodFrames.{HasFrameRoom, IsGoodFrame};
+ghost use Rattle.std.specs.Prelude.{◌≡◌, ◌≢◌, ◌<◌, ◌+◌, ◌&&◌, ◌==◌, [], ℕ, Some, true, false, length, get_or, set, if◌then◌else◌, IfOk, OnOk, OnErr};
+ghost use Rattle.ht_net.specs.Netlist.{first_gate_net, net_count};
+ghost use Rattle.ht_group.specs.GoodFrames.{HasFrameRoom};
 ghost use Rattle.ht_group.specs.GroupView.{AreLatches, HasSite, lane_count};
 ghost use Rattle.ht_group.specs.LatchWords.{HasDifferences};
 ghost use Rattle.ht_group.specs.LaneRules.{in_lane, lane_env};
-ghost use Rattle.ht_group.specs.MachineWords.{AreSameMachines, HasOneMore, HasSame, HasWordRoom, IsMachineAdded, IsBare, IsLaidOver, IsWord};
+ghost use Rattle.ht_group.specs.MachineWords.{AreSameMachines, HasOneMore, HasSame, HasWordRoom, IsMachineAdded, IsBare, IsLaidOver, IsWordIn, machine_but};
 ghost use Rattle.ht_group.specs.Overlays.{IsSpread};
+ghost use Rattle.ht_group.specs.SharedFrames.{IsMorePending, IsSharedFrame};
 ghost use Rattle.ht_events.specs.Schedules.{IsSchedule};
 ghost use Rattle.ht_group.specs.StuckTables.{AreStuck, forced_net_of};
 
 use crate::diffs::{Diff, Diffs};
 use crate::good_frame::GoodFrame;
 use crate::overlay::Overlay;
+use crate::shared_frame::SharedFrame;
 use crate::stuck_lines::StuckLines;
 use ht_events::Schedule;
 use ht_items::BitSet;
@@ -160,31 +161,37 @@ impl Machines {
     // out, the machines are as before.
     fn add(
         &mut self,
-        circuit: &Circuit,
-        schedule: &Schedule,
-        pending: &mut BitSet,
+        frame: &mut SharedFrame,
         fault: Fault,
         diffs: &Diffs,
     ) -> Result<(), AllocError>
-        requires schedule { IsSchedule circuit.now schedule.now }
-        requires stuck { AreStuck circuit.now self.old.lines }
+        requires frame { IsSharedFrame frame.old }
+        requires stuck { AreStuck frame.old.circuit.now self.old.lines }
         requires room { length self.old.lines.faults.items < lane_count }
-        requires site { HasSite circuit.now fault.site }
-        requires known { AreLatches circuit.now diffs.now }
-        requires words { length self.old.sources.words ≡ first_gate_net circuit.now }
-        requires marks { length pending.old ≡ net_count circuit.now }
+        requires site { HasSite frame.old.circuit.now fault.site }
+        requires known { AreLatches frame.old.circuit.now diffs.now }
+        requires words { length self.old.sources.words ≡ first_gate_net frame.old.circuit.now }
         requires plain { in_lane (length self.old.lines.faults.items) self.old.sources.words
             ≡ self.old.sources.good }
-        ensures stuck { AreStuck circuit.now self.new.lines }
-        ensures ok { OnOk result (IsMachineAdded circuit.now schedule.now fault diffs.now self.old
-            pending.old self.new pending.new) }
+        ensures stuck { AreStuck frame.old.circuit.now self.new.lines }
+        ensures frame { frame.new ≡ record frame.old { pending = frame.new.pending } }
+        ensures ok { OnOk result (IsMachineAdded frame.old.circuit.now frame.old.schedule fault
+            diffs.now self.old frame.old.pending self.new frame.new.pending) }
         ensures err { OnErr result (AreSameMachines self.old self.new) }
-        ensures idle { OnErr result (pending.new ≡ pending.old) }
+        ensures idle { OnErr result (frame.new ≡ frame.old) }
     {
         let k = self.lines.faults.len() as u32;
+        let circuit = frame.circuit;
         self.lines.add(circuit, fault)?;
-        put_differences(circuit, schedule, diffs, k, &mut self.sources, pending);
-        touch_forced_net(circuit, schedule, fault.site, pending);
+        put_differences(
+            circuit,
+            &frame.schedule,
+            diffs,
+            k,
+            &mut self.sources,
+            &mut frame.pending,
+        );
+        touch_forced_net(circuit, &frame.schedule, fault.site, &mut frame.pending);
         Ok(())
     }
 
@@ -195,34 +202,24 @@ impl Machines {
     /// Out of memory; the machines are as before.
     pub fn admit(
         &mut self,
-        circuit: &Circuit,
-        schedule: &Schedule,
-        frame: &GoodFrame,
+        frame: &mut SharedFrame,
         fault: Fault,
         diffs: &Diffs,
-        pending: &mut BitSet,
     ) -> Result<(), AllocError>
-        requires circuit { IsCircuit circuit.now }
-        requires schedule { IsSchedule circuit.now schedule.now }
-        requires frame { IsGoodFrame circuit.now frame.now }
-        requires word { IsWord circuit.now schedule.now frame.now pending.old self.old }
+        requires frame { IsSharedFrame frame.old }
+        requires word { IsWordIn frame.old self.old }
         requires room { length self.old.lines.faults.items < lane_count }
-        requires site { HasSite circuit.now fault.site }
-        requires known { AreLatches circuit.now diffs.now }
-        requires marks { length pending.old ≡ net_count circuit.now }
-        ensures word { IsWord circuit.now schedule.now frame.now pending.new self.new }
-        ensures ok { OnOk result (HasOneMore circuit.now self.old (record {
-          fault = fault;
-          latches = with_differences (drop circuit.now.inputs frame.now.sources.items) diffs.now;
-        }) self.new) }
-        ensures err { OnErr result (HasSame circuit.now self.old self.new) }
-        ensures idle { OnErr result (pending.new ≡ pending.old) }
-        ensures more { (r : ℕ) → get_or pending.old r false ≡ true
-            → get_or pending.new r false ≡ true }
-        ensures marks { length pending.new ≡ net_count circuit.now }
+        requires site { HasSite frame.old.circuit.now fault.site }
+        requires known { AreLatches frame.old.circuit.now diffs.now }
+        ensures word { IsWordIn frame.new self.new }
+        ensures more { IsMorePending frame.old frame.new }
+        ensures ok { OnOk result (HasOneMore frame.old.circuit.now self.old
+            (machine_but frame.old fault diffs.now) self.new) }
+        ensures err { OnErr result (HasSame frame.old.circuit.now self.old self.new) }
+        ensures idle { OnErr result (frame.new ≡ frame.old) }
     {
-        self.lay(frame);
-        self.add(circuit, schedule, pending, fault, diffs)?;
+        self.lay(&frame.good);
+        self.add(frame, fault, diffs)?;
         Ok(())
     }
 

@@ -130,7 +130,8 @@ graded_alike : (frame : GroupView) (fault other : Fault) (number : ℕ) (grade :
     ≡ frame_outputs frame.circuit (tern_rules (Some fault)) frame.vector frame.latches
     → next_state frame.circuit (tern_rules (Some other)) frame.vector frame.latches
     ≡ next_state frame.circuit (tern_rules (Some fault)) frame.vector frame.latches
-    → IsGradedFault frame (from_good frame other) number grade → IsGradedFault frame (from_good frame fault) number grade
+    → IsGradedFault frame (from_good frame other) number grade
+    → IsGradedFault frame (from_good frame fault) number grade
 graded_alike frame fault other number grade outputs next graded = record {
   seen = subst (λ (l : List Tern). SeenBy frame l number (length frame.circuit.outputs) grade.verdict) outputs
       graded.seen;
@@ -147,7 +148,8 @@ graded_together frame fault other number a was first_was grade none first_none e
     subst (λ (m : FaultyMachine). IsGradedFault frame m number grade) (from_good_is frame fault was none)
     (graded_alike frame fault other number grade (first_ends.shows.outputs ∙ sym ends.shows.outputs)
     (first_ends.shows.next ∙ sym ends.shows.next)
-    (subst (λ (m : FaultyMachine). IsGradedFault frame m number grade) (sym (from_good_is frame other first_was first_none))
+    (subst (λ (m : FaultyMachine). IsGradedFault frame m number grade)
+    (sym (from_good_is frame other first_was first_none))
     graded))
 
 -- ---- where effects end depends on the circuit, the vector and the latches alone

@@ -155,4 +155,5 @@ module _ (g : ClassGraderView) (faults : AreOfClasses g.machines g.representativ
       let run = stands.run live in
       let undetected = subst (IsFirstFrom g.machines.circuit fault start list) none
       (stands.first.first i inside represents) in
-      run.state k fault machine_is (none_seen start list undetected (verdict_at g.machines k) (run.first k fault machine_is))
+      run.state k fault machine_is (none_seen start list undetected (verdict_at g.machines k)
+      (run.first k fault machine_is))

@@ -28,7 +28,8 @@ pub record AreFirstSoFar (c : Netlist) (representatives : List ℕ) (start : Lis
 
 -- what holds of each entry that is a place holds once one is written of which it holds
 pub each_set : (P : Place → Type 0) (places : List (Option Place)) (place : Option Place) (i : ℕ) → i < length places
-    → ForSome place P → ((j : ℕ) → ForSome (place_at places j) P) → (j : ℕ) → ForSome (place_at (set places i place) j) P
+    → ForSome place P → ((j : ℕ) → ForSome (place_at places j) P) → (j : ℕ)
+    → ForSome (place_at (set places i place) j) P
 each_set P places place i inside here each j = elim (cases_eq j i) [
   | inl same ↦
       subst (λ n. ForSome (place_at (set places i place) n) P) (sym same)

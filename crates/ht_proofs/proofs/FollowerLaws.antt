@@ -12,33 +12,26 @@ use Rattle.ht_tern.specs.declared.tern.Tern.{Tern}
 use Rattle.ht_tern.specs.declared.tern.Tern.TheVariants.{Zero, One, Unk}
 use Rattle.ht_net.specs.declared.net.NetId.{NetId}
 use Rattle.ht_net.specs.declared.fault.Fault.{Fault}
-use Rattle.ht_net.specs.declared.fault.Site.{Site}
-use Rattle.ht_net.specs.declared.fault.Site.TheVariants.{Stem, DffPin, GatePin}
 use Rattle.ht_net.specs.Netlist.{Netlist}
 use Rattle.ht_net.specs.Faults.{tern_rules}
 use Rattle.ht_net.proofs.FrameLaws.{le_or_lt}
 use Rattle.ht_stems.specs.declared.arrival.Arrival.{Arrival}
 use Rattle.ht_stems.specs.declared.arrival.Arrival.TheVariants.{Dies, AtLatch, AtOutput, AtStem}
-use Rattle.ht_stems.specs.Arrivals.{HasLine, IsWithin}
+use Rattle.ht_stems.specs.Arrivals.{IsWithin}
 use Rattle.ht_stems.specs.ArrivedFrames.{AreGoodValues, ShowsArrival}
 use Rattle.ht_stems.specs.ArrivalsView.{ArrivalsView, good_of_net}
 use Rattle.ht_group.specs.declared.diffs.Diff.{Diff}
 use Rattle.ht_faults.specs.FaultList.{no_fault}
-use Rattle.ht_group.specs.GroupView.{GroupView, FaultyMachine, AreLatches, HasSite}
+use Rattle.ht_group.specs.GroupView.{GroupView, FaultyMachine, AreLatches}
 use Rattle.ht_proofs.specs.declared.grade.Grade.{Grade}
 use Rattle.ht_proofs.specs.declared.stems.Firsts.{Firsts}
 use Rattle.ht_proofs.specs.declared.stems.Follower.{Follower}
+use Rattle.ht_proofs.specs.declared.stems.Stems.{Stems}
 use Rattle.ht_proofs.specs.LaneGrades.{no_grade, grade_at, HasNoLane, IsGradedFault}
-use Rattle.ht_proofs.specs.Batches.{BatchView, ArePassed, ArePassedAll, IsGradedFrame, machine_from}
-use Rattle.ht_proofs.specs.Followers.{no_firsts, first_in, with_first, first_at, first_noted, firsts_if, no_follower, following, Joins, comes_first, comes_later, arrived_grade, is_at_stem, EndsAt, GoesThrough, takes_lane, ends_apart, ends_at_stem, IsFollower, AreSharing, AreFollowers, AreCopied}
+use Rattle.ht_proofs.specs.Batches.{BatchStandsFor, BatchView, FrameStart, ArePassed, ArePassedAll, IsGradedFrame, machine_from}
+use Rattle.ht_proofs.specs.Followers.{no_firsts, first_in, with_first, first_at, first_noted, firsts_if, no_follower, following, Joins, comes_first, comes_later, arrived_grade, is_at_stem, EndsAt, GoesThrough, takes_lane, ends_apart, ends_at_stem, IsFollower, AreSharing, AreFollowers, AreCopied, FrameStandsFor}
 use Rattle.ht_proofs.proofs.BatchLaws.{graded_in, has_lane, lane_before, lane_last, lane_order, sharing_later}
 use Rattle.ht_proofs.proofs.ArrivedLaws as arrived
-
--- a line of the circuit is a site
-pub line_site : (c : Netlist) (site : Site) → HasLine c site → HasSite c site
-line_site c (Stem x) h = h
-line_site c (DffPin j) h = h
-line_site c (GatePin g i) h = h.0
 
 -- the values of a frame are those of a batch in it
 pub good_in : (g frame : GroupView) (a b : ArrivalsView) → g.circuit ≡ frame.circuit → g.vector ≡ frame.vector
@@ -393,7 +386,8 @@ module _ (frame : GroupView) (faults : List Fault) (number : ℕ) (before : List
         (graded_in s.group frame (arrived.from_good s.group fault) number (arrived_grade s.group number a)
         passed.circuit_same passed.vector_same passed.latches_same
         (arrived.arrived_graded s.group fault number a ends not_stem))))
-    passed_on _ _ _ _ (ends_at_stem x v lane after more none ends joins) is new_is = joined_on x.0 v lane after more joins is
+    passed_on _ _ _ _ (ends_at_stem x v lane after more none ends joins) is new_is =
+        joined_on x.0 v lane after more joins is
 
 joined_lane : (x : ℕ) (v : Tern) (i : ℕ) (table : List Firsts) (followers : List Follower) (lane : Bool)
     (after : List Firsts) (more : List Follower) → Joins x v i table followers lane after more → lane ≡ true
@@ -427,7 +421,16 @@ pub known_on : (group : GroupView) (fault : Fault) (number i : ℕ) (grade : Gra
 known_on group fault number i grade table followers _ _ _ _ takes_lane known = known
 known_on group fault number i grade table followers _ _ _ _ (ends_apart a none ends not_stem) known =
     arrived.arrived_known group fault number a ends
-known_on group fault number i grade table followers _ _ _ _ (ends_at_stem x v lane after more none ends joins) known = known
+known_on group fault number i grade table followers _ _ _ _ (ends_at_stem x v lane after more none ends joins) known =
+    known
+
+-- a batch and the faults that share grades stand for the frame together
+pub frame_stands : (start : FrameStart) (number i : ℕ) (s : BatchView) (stems : Stems) (grades : List Grade)
+    (steps : ℕ) → BatchStandsFor start number i (following stems.followers.items) s grades steps
+    → AreSharing start.frame start.faults number start.grades i (firsts_if stems.found stems.firsts.items)
+    stems.followers.items
+    → FrameStandsFor start number i s stems grades steps
+frame_stands start number i s stems grades steps stands shared = record { stands = stands; shared = shared }
 
 -- ---- the grades that are taken over
 

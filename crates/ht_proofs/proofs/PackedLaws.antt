@@ -199,19 +199,23 @@ start_fields c d start faults which chosen latches verdicts undetected grades is
           (λ i d less. absurd (omega arith));
     })
 
+-- a grader by its parts
+abbrev pub grades_by : Netlist → List Fault → ℕ → List Tern → List (Option Place) → List Grade → Bool → PackedView
+grades_by c faults count latches verdicts grades live = record {
+  circuit = c;
+  faults = faults;
+  count = count;
+  latches = latches;
+  verdicts = verdicts;
+  states = faulty_states latches grades;
+  live = live;
+}
+
 pub start_view : (c d : Netlist) (start : List Tern) (faults : List Fault) (latches : List Tern)
     (verdicts : List (Option Place))
     (grades : List Grade) → d ≡ c → latches ≡ start → verdicts ≡ replicate (length faults) None
     → grades ≡ replicate (length faults) no_grade
-    → record {
-      circuit = d;
-      faults = faults;
-      count = 0;
-      latches = latches;
-      verdicts = verdicts;
-      states = faulty_states latches grades;
-      live = true;
-    } ≡ grades_at_start c start faults
+    → grades_by d faults 0 latches verdicts grades true ≡ grades_at_start c start faults
 start_view c d start faults latches verdicts grades same begun none empty =
     let states : faulty_states latches grades ≡ replicate (length faults) start =
     ap (faulty_states latches) empty
@@ -227,18 +231,6 @@ start_view c d start faults latches verdicts grades same begun none empty =
     }
 
 -- ---- after one more vector
-
--- a grader by its parts
-abbrev pub grades_by : Netlist → List Fault → ℕ → List Tern → List (Option Place) → List Grade → Bool → PackedView
-grades_by c faults count latches verdicts grades live = record {
-  circuit = c;
-  faults = faults;
-  count = count;
-  latches = latches;
-  verdicts = verdicts;
-  states = faulty_states latches grades;
-  live = live;
-}
 
 -- A frame of all faults has run: `old` and `new` are what was kept of the faults before it and after it.
 pub record HasRun (g : PackedView) (old : List Grade) (vector : List Bool) (frame : GroupView) (h : PackedView)

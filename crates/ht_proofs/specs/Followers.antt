@@ -13,10 +13,11 @@ use Rattle.ht_stems.specs.Arrivals.{IsWithin}
 use Rattle.ht_stems.specs.ArrivedFrames.{ShowsArrival}
 use Rattle.ht_group.specs.GroupView.{GroupView, good_output}
 use Rattle.ht_proofs.specs.LaneGrades.{no_grade, grade_at, with_place, HasNoLane, IsGradedFault}
-use Rattle.ht_proofs.specs.Batches.{machine_from}
+use Rattle.ht_proofs.specs.Batches.{BatchStandsFor, BatchView, FrameStart, machine_from}
 use Rattle.ht_proofs.specs.declared.grade.Grade.{Grade}
 use Rattle.ht_proofs.specs.declared.stems.Firsts.{Firsts}
 use Rattle.ht_proofs.specs.declared.stems.Follower.{Follower}
+use Rattle.ht_proofs.specs.declared.stems.Stems.{Stems}
 
 -- no fault has arrived at a net
 abbrev pub no_firsts : Firsts
@@ -142,3 +143,10 @@ pub record AreCopied (n : ℕ) (followers : List Follower) (old new : List Grade
       → grade_at new (get_or followers k no_follower).fault ≡ grade_at old (get_or followers k no_follower).first
   pub others : (j : ℕ) → ((k : ℕ) → k < n → k < length followers → (get_or followers k no_follower).fault ≢ j)
       → grade_at new j ≡ grade_at old j
+
+-- The faults below i of a frame went through it: in a lane, in none, or as one that follows another.
+pub record FrameStandsFor (start : FrameStart) (number i : ℕ) (batch : BatchView) (stems : Stems) (grades : List Grade)
+    (steps : ℕ) : Type 0 where
+  pub stands : BatchStandsFor start number i (following stems.followers.items) batch grades steps
+  pub shared : AreSharing start.frame start.faults number start.grades i (firsts_if stems.found stems.firsts.items)
+      stems.followers.items

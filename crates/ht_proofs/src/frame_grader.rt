@@ -1,18 +1,16 @@
 //! One frame of all undetected faults.
-ghost use Rattle.std.specs.Prelude.{◌≡◌, ◌↔◌, ◌<◌, ◌≤◌, ◌+◌, ◌*◌, ◌/◌, ℕ, [], List, None, Some, true, min, length, replicate, IfOk, IsTrue, OnOk, OnErr};
+ghost use Rattle.std.specs.Prelude.{◌≡◌, ◌↔◌, ◌<◌, ◌≤◌, ◌+◌, ◌*◌, ◌/◌, ℕ, [], None, Some, true, length, replicate, IfOk, IsTrue, OnOk};
 ghost use Rattle.std.specs.List.{All, count_by, slice_get};
 ghost use Rattle.ht_net.specs.declared.fault.Fault.{Fault};
-ghost use Rattle.ht_net.specs.Detection.{terns_of};
 ghost use Rattle.ht_net.specs.Netlist.{net_count};
 ghost use Rattle.ht_stems.specs.Arrivals.{HasLine};
 ghost use Rattle.ht_stems.specs.ArrivedFrames.{AreGoodValues};
 ghost use Rattle.ht_stems.specs.ArrivalsView.{good_of_net};
-ghost use Rattle.ht_group.specs.GroupView.{AreLatches, GroupView, max_machines, words_for};
-ghost use Rattle.ht_proofs.specs.declared.grade.Grade.{Grade};
-ghost use Rattle.ht_proofs.specs.Applied.{good_state, max_steps};
+ghost use Rattle.ht_group.specs.GroupView.{AreLatches, max_machines, words_for};
+ghost use Rattle.ht_proofs.specs.Applied.{good_state};
 ghost use Rattle.ht_proofs.specs.LaneGrades.{grade_at, holds_good};
-ghost use Rattle.ht_proofs.specs.Batches.{AreCounted, AreLanesBelow, ArePassed, ArePassedAll, IsGradedFrame, undetected_count};
-ghost use Rattle.ht_proofs.specs.Followers.{AreSharing, firsts_if, following, no_firsts};
+ghost use Rattle.ht_proofs.specs.Batches.{AddsAtMost, AreLanesBelow, ArePassedAll, FrameStart, HasBegunFrame, IsGradedFrame, undetected_count};
+ghost use Rattle.ht_proofs.specs.Followers.{AreSharing, FrameStandsFor, firsts_if, following, no_firsts};
 ghost use Rattle.ht_proofs.specs.Undetected.{undetected_of, verdicts_of};
 
 use crate::batch::Batch;
@@ -64,39 +62,16 @@ fn grade_fault(
     requires table { length stems.old.firsts.items ≡ net_count batch.old.group.circuit }
     requires good { stems.old.found ≡ true → AreGoodValues batch.old.group.circuit
         batch.old.group.vector batch.old.group.latches (good_of_net stems.old.arrivals) }
-    ensures lanes { OnOk result (AreLanesBelow (i + 1) batch.new grades.new) }
-    ensures room { OnOk result (length batch.new.lanes < max_machines) }
-    ensures passed { OnOk result
-        ((frame : GroupView) (faults : List Fault) (before : List Grade)
-        → slice_get faults i ≡ Some fault
-        → AreSharing frame faults number before i
-        (firsts_if stems.old.found stems.old.firsts.items) stems.old.followers.items
-        → ArePassed frame faults number before i (following stems.old.followers.items) batch.old
-        grades.old
-        → ArePassed frame faults number before (i + 1) (following stems.new.followers.items)
-        batch.new grades.new) }
-    ensures shared { OnOk result
-        ((frame : GroupView) (faults : List Fault) (before : List Grade)
-        → slice_get faults i ≡ Some fault
-        → AreSharing frame faults number before i
-        (firsts_if stems.old.found stems.old.firsts.items) stems.old.followers.items
-        → ArePassed frame faults number before i (following stems.old.followers.items) batch.old
-        grades.old
-        → AreSharing frame faults number before (i + 1)
-        (firsts_if stems.new.found stems.new.firsts.items) stems.new.followers.items) }
-    ensures counted { OnOk result ((before : List Grade) (start : ℕ)
-        → length before ≡ length grades.old → grade_at grades.old i ≡ grade_at before i
-        → AreCounted (length batch.old.group.circuit.gates) before i (length batch.old.lanes)
-        start steps.old.count
-        → AreCounted (length batch.old.group.circuit.gates) before (i + 1)
-        (length batch.new.lanes) start steps.new.count) }
+    ensures stands { OnOk result ((start : FrameStart) → slice_get start.faults i ≡ Some fault
+        → FrameStandsFor start number i batch.old stems.old grades.old steps.old.count
+        → FrameStandsFor start number (i + 1) batch.new stems.new grades.new steps.new.count) }
     ensures circuit { batch.new.group.circuit ≡ batch.old.group.circuit }
     ensures table { length stems.new.firsts.items ≡ length stems.old.firsts.items }
     ensures arrivals { stems.new.arrivals ≡ stems.old.arrivals }
     ensures found { stems.new.found ≡ stems.old.found }
-    ensures steps { OnErr result (steps.new.count ≤ steps.old.count
-        + length batch.old.group.circuit.gates * words_for (length batch.old.lanes + 1)) }
-    ensures rises { steps.old.count ≤ steps.new.count }
+    ensures steps { AddsAtMost
+        (length batch.old.group.circuit.gates * words_for (length batch.old.lanes + 1))
+        steps.old.count steps.new.count }
 {
     let in_lane = stems.needs_lane(batch, fault, i, number, grades)?;
     if !in_lane {
@@ -195,18 +170,8 @@ impl<'c> FrameGrader<'c> {
     pub fn start(&mut self, vector: &[bool], latches: &[Tern], steps: &mut Steps)
         requires width { length vector.now ≡ self.old.group.circuit.inputs }
         requires each { length latches.now ≡ length self.old.group.circuit.dffs }
-        ensures group { self.new.group ≡ record {
-          circuit = self.old.group.circuit;
-          vector = terns_of vector.now;
-          latches = latches.now;
-          machines = [];
-          settled = true;
-        } }
-        ensures lanes { self.new.lanes ≡ [] }
-        ensures steps { steps.new.count
-            ≤ steps.old.count + length self.old.group.circuit.gates }
-        ensures counted { min (steps.old.count + length self.old.group.circuit.gates) max_steps
-            ≤ steps.new.count }
+        ensures { HasBegunFrame self.old vector.now latches.now steps.old.count self.new
+            steps.new.count }
     {
         self.batch.start(vector, latches, steps);
     }

@@ -1,12 +1,12 @@
 //! Where the effects of the faults of a frame end whose machines hold the good latches.
-ghost use Rattle.std.specs.Prelude.{◌≡◌, ◌≢◌, ◌<◌, ℕ, [], Some, None, true, length, get_or, replicate, IfOk, OnOk};
+ghost use Rattle.std.specs.Prelude.{◌≡◌, ◌≢◌, ◌<◌, ℕ, [], Some, None, true, length, replicate, IfOk, OnOk};
 ghost use Rattle.ht_tern.specs.declared.tern.Tern.{Tern};
 ghost use Rattle.ht_net.specs.Netlist.{net_count};
 ghost use Rattle.ht_stems.specs.Arrivals.{HasLine};
 ghost use Rattle.ht_stems.specs.ArrivedFrames.{AreGoodValues};
 ghost use Rattle.ht_stems.specs.ArrivalsView.{good_of_net};
-ghost use Rattle.ht_proofs.specs.LaneGrades.{HasNoLane, grade_at};
-ghost use Rattle.ht_proofs.specs.Followers.{AreCopied, AreFollowers, GoesThrough, Joins, first_in, firsts_if, following, no_firsts, no_follower, with_first};
+ghost use Rattle.ht_proofs.specs.LaneGrades.{grade_at};
+ghost use Rattle.ht_proofs.specs.Followers.{AreCopied, AreFollowers, GoesThrough, Joins, first_in, firsts_if, no_firsts, with_first};
 
 use crate::batch::Batch;
 use crate::grade::Grade;

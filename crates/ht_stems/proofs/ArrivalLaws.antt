@@ -74,7 +74,8 @@ module _ (c : Netlist) (circuit : IsCircuit c) (vector latches : List Tern) wher
   module _ (good : ℕ → Tern) (are : AreGoodValues c vector latches good) where
     pub through_shows : (x g : ℕ) (v : Tern) → x < net_count c → HasLoads c x (OneGate g)
         → ShowSame c (net_forced (tern_rules None) x v)
-        (net_forced (tern_rules None) (first_gate_net c + g) (gate_output c (tern_rules None) (with_net_value good x v) g))
+        (net_forced (tern_rules None) (first_gate_net c + g)
+        (gate_output c (tern_rules None) (with_net_value good x v) g))
         vector latches
     through_shows x g v known loads =
         let E : ℕ → Tern = net_value c (tern_rules None) vector latches in

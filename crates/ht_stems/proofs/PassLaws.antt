@@ -1,14 +1,13 @@
 -- A pass back over the nets of a frame.
-use Rattle.std.proofs.Common.{◌≡◌, ◌≢◌, ◌<◌, ◌+◌, ◌-◌, ◌∙◌, ◌↔◌, ℕ, List, Bool, true, false, None, length, get_or, set, refl, sym, ap, subst, arith, inl, inr, get_or-set_other, get_or-set_same}
+use Rattle.std.proofs.Common.{◌≡◌, ◌≢◌, ◌<◌, ◌+◌, ◌-◌, ◌∙◌, ◌↔◌, ℕ, List, Bool, true, false, None, length, get_or, set, refl, sym, ap, subst, arith, inl, inr}
 use Rattle.std.proofs.lemmas.List.{set-get_or, set-set}
 use Rattle.std.specs.Prelude.{IsTrue}
-use Rattle.std.proofs.lemmas.Bool.Decides.{eqb_tells}
 use Rattle.ht_tern.specs.declared.tern.Tern.{Tern}
 use Rattle.ht_tern.specs.declared.tern.Tern.TheVariants.{Zero, Unk}
 use Rattle.ht_net.specs.Netlist.{Netlist, first_gate_net, net_count, gate_at, arg_at, IsReady, IsOrder}
 use Rattle.ht_net.specs.Frame.{gate_output}
 use Rattle.ht_net.specs.Faults.{tern_rules}
-use Rattle.ht_net.proofs.FrameLaws.{le_or_lt, gate_same}
+use Rattle.ht_net.proofs.FrameLaws.{le_or_lt}
 use Rattle.ht_frame.specs.Values.{env_of}
 use Rattle.ht_stems.specs.declared.arrival.Arrival.{Arrival}
 use Rattle.ht_stems.specs.declared.net_ends.NetEnds.{NetEnds}
@@ -19,23 +18,6 @@ use Rattle.ht_stems.specs.LoadsOfNets.{AreLoads, HasLoads}
 use Rattle.ht_stems.specs.Arrivals.{Arrives, through_gate}
 use Rattle.ht_stems.specs.NetEnds.{AreTableEnds, AreEndsAfter, AreNetEnds, end_at, no_ends}
 use Rattle.ht_stems.proofs.ReadLaws.{read_at}
-use Rattle.ht_stems.proofs.ForcedLaws.{with_here, with_other}
-
--- A value that is written is put in place of the net's own.
-put_value : (values : List Tern) (x : ℕ) (v : Tern) (y : ℕ) → x < length values
-    → env_of Unk (set values x v) y ≡ with_net_value (env_of Unk values) x v y
-put_value values x v y inside = elim (eqb_tells y x) [
-  | inl p ↦ ap (λ (n : ℕ). get_or (set values x v) n Unk) p.1
-      ∙ (get_or-set_same values x v Unk inside ∙ sym (with_here (env_of Unk values) x v y p.1))
-  | inr p ↦ get_or-set_other values x y v Unk p.1 ∙ sym (with_other (env_of Unk values) x v y p.1)
-]
-
-pub put_output : (c : Netlist) (values : List Tern) (x g : ℕ) (v : Tern) → x < length values
-    → gate_output c (tern_rules None) (env_of Unk (set values x v)) g
-    ≡ gate_output c (tern_rules None) (with_net_value (env_of Unk values) x v) g
-put_output c values x g v inside =
-    gate_same c (tern_rules None) (env_of Unk (set values x v)) (with_net_value (env_of Unk values) x v) g
-    (λ j l. put_value values x v _ inside)
 
 -- A value that was put in place of a net's own is taken out again.
 pub put_back : (values : List Tern) (x y z : ℕ) (v : Tern) → y ≡ x → z ≡ x
@@ -121,22 +103,6 @@ gates_after c values others loads table order k x ordered are inside same at don
     let Q : ℕ → Type 0 = λ n. AreEndsAfter c (env_of Unk values) loads table n in
     subst P (sym same) (subst Q (sym at) (ends_later c (env_of Unk values) loads table order k ordered are inside done))
 
--- One more net of a table has where its effects end.
-pub ends_written : (c : Netlist) (good : ℕ → Tern) (table : List NetEnds) (x : ℕ) (ends : NetEnds) (y : ℕ)
-    → x < length table → AreNetEnds c good x ends
-    → (y ≢ x → AreNetEnds c good y (get_or table y no_ends))
-    → AreNetEnds c good y (get_or (set table x ends) y no_ends)
-ends_written c good table x ends y inside here rest = elim (eqb_tells y x) [
-  | inl p ↦
-      let P : ℕ → Type 0 = λ z. AreNetEnds c good z (get_or (set table x ends) z no_ends) in
-      let Q : NetEnds → Type 0 = AreNetEnds c good x in
-      let at : P x = subst Q (sym (get_or-set_same table x ends no_ends inside)) here in
-      subst P (sym p.1) at
-  | inr p ↦
-      let Q : NetEnds → Type 0 = AreNetEnds c good y in
-      subst Q (sym (get_or-set_other table x y ends no_ends p.1)) (rest p.1)
-]
-
 -- All nets have where their effects end, once the sources and each gate of an order have.
 pub all_gates_end : (c : Netlist) (good : ℕ → Tern) (table : List NetEnds) (order : List ℕ) → IsOrder c order
     → ((j : ℕ) → j < length order → AreNetEnds c good (first_gate_net c + get_or order j 0)
@@ -160,13 +126,3 @@ all_nets_end c good table low gates x known = elim (le_or_lt (first_gate_net c) 
       here
   | inr below ↦ low x below
 ]
-
--- so of a source
-pub ends_after_source : (c : Netlist) (good : ℕ → Tern) (loads : List NetLoads) (table : List NetEnds) (x : ℕ)
-    → AreLoads c loads → x < net_count c
-    → ((g : ℕ) → g < length c.gates
-    → AreNetEnds c good (first_gate_net c + g) (get_or table (first_gate_net c + g) no_ends))
-    → AreEndsAfter c good loads table x
-ends_after_source c good loads table x are known gates g is =
-    let reads : HasLoads c x (OneGate g) = subst (HasLoads c x) is (are.each x known) in
-    gates g reads.1

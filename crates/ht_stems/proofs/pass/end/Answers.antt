@@ -37,7 +37,8 @@ returns-in-OneGate-clause-end c =
     let P : Arrival → Type 0 = Arrives net good c.args.net.0 c.args.value in
     subst P (sym told)
     (ends_through net good c.args.loads.now c.args.ends.now c.args.net.0 g c.args.value output c.requires.net
-    c.requires.loads (not_value c.has_net_value.result c.has_net_value.ensures c.if-has_net_value.false) entry c.requires.after
+    c.requires.loads (not_value c.has_net_value.result c.has_net_value.ensures c.if-has_net_value.false) entry
+    c.requires.after
     c.forced_gate_output-output.ensures.output)
 
 pub returns-in-OneDataPin-clause-end : goal.returns-in-OneDataPin-clause-end
@@ -56,6 +57,7 @@ returns-in-OneOutput-clause-end c =
 
 pub returns-in-Several-clause-end : goal.returns-in-Several-clause-end
 returns-in-Several-clause-end c =
-    at_stem c.args.net.0 c.args.value (not_value c.has_net_value.result c.has_net_value.ensures c.if-has_net_value.false)
+    at_stem c.args.net.0 c.args.value (not_value c.has_net_value.result c.has_net_value.ensures
+    c.if-has_net_value.false)
     (entry_loads c.args.circuit.now c.args.loads.now c.args.net.0 c.index.result Several
     c.requires.loads c.requires.net c.index.ensures c.in-Several.is)

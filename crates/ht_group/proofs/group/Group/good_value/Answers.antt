@@ -13,9 +13,9 @@ returns c =
     let g = c.self.invariant in
     let x = c.args.net.0 in
     let size = ap (λ (v : GroupView). net_count v.circuit) c.self.view_is in
-    let known : x < net_count a.circuit.now = omega (arith, c.requires, size) in
-    let inside : x < length a.frame.values.items = omega (arith, known, g.frame.room.value_count) in
+    let known : x < net_count a.frame.circuit.now = omega (arith, c.requires, size) in
+    let inside : x < length a.frame.good.values.items = omega (arith, known, g.frame.good.room.value_count) in
     c.index-2.ensures
-    ∙ (ap (λ (n : ℕ). get_or a.frame.values.items n c.index-2.result.now) c.index.ensures
-    ∙ (get_or_default a.frame.values.items x c.index-2.result.now Unk inside
+    ∙ (ap (λ (n : ℕ). get_or a.frame.good.values.items n c.index-2.result.now) c.index.ensures
+    ∙ (get_or_default a.frame.good.values.items x c.index-2.result.now Unk inside
     ∙ (good_of a g x known ∙ ap (λ (v : GroupView). good_value v x) c.self.view_is)))

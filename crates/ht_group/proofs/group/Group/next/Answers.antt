@@ -18,7 +18,7 @@ index-requires c =
 pub data_pin-requires-clause-stuck : goal.data_pin-requires-clause-stuck
 data_pin-requires-clause-stuck c =
     let used = used_word c.self.inside c.self.invariant c.args.self.now c.self.view_is c.args.w c.requires.word in
-    subst (λ (m : Machines). AreStuck c.self.inside.circuit.now m.lines) (sym c.index.ensures)
+    subst (λ (m : Machines). AreStuck c.self.inside.frame.circuit.now m.lines) (sym c.index.ensures)
     (word_stuck c.self.inside c.self.invariant c.args.w c.index.result.now used)
 
 pub returns-clause-machines : goal.returns-clause-machines

@@ -14,7 +14,7 @@ long : (c : goal.After-self-3-1) → length c.begin_words.new.words ≡ length c
 long c = c.begin_words.ensures.count ∙ ap (λ (l : List Machines). length l) c.deref_mut.ensures.value
 
 bare : (c : goal.After-self-3-1) (w : ℕ) (d : Machines) → w < 4
-    → IsBare c.self.inside.circuit.now (get_or c.begin_words.new.words w d)
+    → IsBare c.self.inside.frame.circuit.now (get_or c.begin_words.new.words w d)
 bare c w d inside =
     let four = ap (λ (l : List Machines). length l) c.deref_mut.ensures.value in
     c.begin_words.ensures.each w d (omega (arith, inside, four, c.self.invariant.word_count))
@@ -25,10 +25,12 @@ invariant_of-self c =
     let g = c.self.invariant in
     let new = c.begin_words.new.words in
     let size = long c in
-    still_group _ new (length a.pending) g.circuit g.schedule c.start.ensures.frame
+    still_group _ new (length a.frame.pending) g.frame.circuit g.frame.schedule c.start.ensures.frame
     (with_items_is a.words new (omega (arith, size)))
-    (long c ∙ g.word_count) (bare_words a.circuit.now a.schedule c.start.new.self c.clear.new.self new (bare c))
-    (bare_filled a.circuit.now new (long c ∙ g.word_count) (bare c)) (omega arith) c.clear.ensures g.marks g.room
+    (long c ∙ g.word_count) (bare_words a.frame.circuit.now a.frame.schedule c.start.new.self c.clear.new.self new
+    (bare c))
+    (bare_filled a.frame.circuit.now new (long c ∙ g.word_count) (bare c)) (omega arith) c.clear.ensures g.frame.marks
+    g.room
     g.four_room
 
 pub returns : goal.returns
@@ -40,12 +42,13 @@ returns c =
     let inputs = ap (λ (v : GroupView). v.circuit.inputs) c.self.view_is in
     let bits = c.args.vector.now in
     let count = length-map bits tern_of in
-    let wide : a.circuit.now.inputs ≡ length (terns_of bits) = omega (arith, inputs, count, c.requires.width) in
+    let wide : a.frame.circuit.now.inputs ≡ length (terns_of bits) = omega (arith, inputs, count, c.requires.width) in
     let sources = c.start.ensures.sources in
     let vector = (λ i. take (wide i) (sources i)) ∙ take-append_seam (terns_of bits) c.args.latches.now in
     let latches = (λ i. drop (wide i) (sources i)) ∙ drop-append_seam (terns_of bits) c.args.latches.now in
-    let machines = ap (flat_map (machines_of a.circuit.now)) (with_items_is a.words new (omega (arith, size)))
-    ∙ no_machines a.circuit.now new (bare_filled a.circuit.now new (long c ∙ c.self.invariant.word_count) (bare c)) in
+    let machines = ap (flat_map (machines_of a.frame.circuit.now)) (with_items_is a.words new (omega (arith, size)))
+    ∙ no_machines a.frame.circuit.now new (bare_filled a.frame.circuit.now new (long c ∙ c.self.invariant.word_count)
+    (bare c)) in
     λ i. record {
       circuit = circuit i;
       vector = vector i;

@@ -28,7 +28,8 @@ grade_each-requires-clause-firsts c = λ found.
 pub copy_grades-requires : goal.copy_grades-requires
 copy_grades-requires c =
     are_followers c.self.inside.batch.group c.args.faults.now c.args.number c.args.grades.now
-    (firsts_if c.grade_each.new.stems.found c.grade_each.new.stems.firsts.items) c.grade_each.new.stems.followers.items c.grade_each.new.grades
+    (firsts_if c.grade_each.new.stems.found c.grade_each.new.stems.firsts.items) c.grade_each.new.stems.followers.items
+    c.grade_each.new.grades
     (omega (arith, c.requires.each, c.grade_each.auto.grades)) c.in_ok-grade_each.ensures.shared
 
 pub returns-clause-passed : goal.returns-clause-passed
@@ -37,7 +38,8 @@ returns-clause-passed c =
     (λ copied. subst (λ (b : BatchView). IsGradedFrame b.group c.args.faults.now c.args.number c.args.grades.now
     c.copy_grades.new.grades) c.self.view_is
     (all_graded c.self.inside.batch.group c.args.faults.now c.args.number c.args.grades.now c.grade_each.new.grades
-    c.copy_grades.new.grades (firsts_if c.grade_each.new.stems.found c.grade_each.new.stems.firsts.items) c.grade_each.new.stems.followers.items
+    c.copy_grades.new.grades (firsts_if c.grade_each.new.stems.found c.grade_each.new.stems.firsts.items)
+    c.grade_each.new.stems.followers.items
     c.in_ok-grade_each.ensures.passed c.in_ok-grade_each.ensures.shared copied))
     c.copy_grades.ensures
 

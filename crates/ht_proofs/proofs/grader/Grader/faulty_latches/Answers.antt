@@ -51,7 +51,8 @@ returns-clause-state c =
 pub returns-clause-each : goal.returns-clause-each
 returns-clause-each c =
     let each = long (goal.at.returns-clause-each c).At-loop-j in
-    ap (λ (l : List Tern). length l) (c.loop-j.invariant ∙ take_all c.loop-j.j (state_at c.args.self.now c.args.k) (omega (
+    ap (λ (l : List Tern). length l) (c.loop-j.invariant ∙ take_all c.loop-j.j (state_at c.args.self.now c.args.k)
+    (omega (
       arith,
       c.loop-j-test.false,
       c.dffs-j-end.ensures,

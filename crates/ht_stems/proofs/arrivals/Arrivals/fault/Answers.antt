@@ -20,12 +20,14 @@ returns-clause-end c = goes_on c
 
 pub returns-then-is_stuck_already-clause-shows : goal.returns-then-is_stuck_already-clause-shows
 returns-then-is_stuck_already-clause-shows c = λ vector latches are.
-    fault_shows c.args.self.now.circuit c.is_stuck_already.ensures.circuit vector latches (good_of_net c.args.self.now) are
+    fault_shows c.args.self.now.circuit c.is_stuck_already.ensures.circuit vector latches (good_of_net c.args.self.now)
+    are
     c.args.fault _ c.requires (dies c)
 
 pub returns-clause-shows : goal.returns-clause-shows
 returns-clause-shows c = λ vector latches are.
-    fault_shows c.args.self.now.circuit c.is_stuck_already.ensures.circuit vector latches (good_of_net c.args.self.now) are
+    fault_shows c.args.self.now.circuit c.is_stuck_already.ensures.circuit vector latches (good_of_net c.args.self.now)
+    are
     c.args.fault c.site.result c.requires (goes_on c)
 
 pub returns-then-is_stuck_already-clause-within : goal.returns-then-is_stuck_already-clause-within

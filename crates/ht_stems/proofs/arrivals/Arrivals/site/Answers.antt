@@ -29,5 +29,6 @@ returns-in-GatePin-clause-end c =
     pin_told a c.args.self.now c.self.view_is c.self.invariant c.args.fault g c.in-GatePin.pin output
     c.end_in-in-GatePin.result c.in-GatePin.is c.requires gives
     (c.end_in-in-GatePin.ensures
-    ∙ (ap (λ (l : List NetEnds). end_at (get_or l c.gate_net.result.0 no_ends) output) c.deref-in-GatePin-2.ensures.value
+    ∙ (ap (λ (l : List NetEnds). end_at (get_or l c.gate_net.result.0 no_ends) output)
+    c.deref-in-GatePin-2.ensures.value
     ∙ ap (λ (n : ℕ). end_at (get_or a.ends.items n no_ends) output) c.gate_net.ensures.net))

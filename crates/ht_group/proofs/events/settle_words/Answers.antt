@@ -1,7 +1,7 @@
 use Rattle.std.proofs.Common.{arith}
 use Rattle.ht_group.proofs.ChangeLaws.{first_run_on}
 use Rattle.ht_group.proofs.EventLaws.{passed_on}
-use Rattle.ht_group.proofs.events.settle.Goals as goal
+use Rattle.ht_group.proofs.events.settle_words.Goals as goal
 
 pub loop-rank-preserved : goal.loop-rank-preserved
 loop-rank-preserved c =
