@@ -11,12 +11,14 @@ carried r P is = subst (λ (e : Entry). IfOk r (λ passes. IsTrue passes ↔ P e
 
 pub returns-in-Untestable-clause-exact : goal.returns-in-Untestable-clause-exact
 returns-in-Untestable-clause-exact c =
-    carried c.refutes.result (Passes c.args.kept.now.circuit c.args.start.now c.args.fault c.args.budget) c.in-Untestable.is
+    carried c.refutes.result (Passes c.args.kept.now.circuit c.args.start.now c.args.fault c.args.budget)
+    c.in-Untestable.is
     c.refutes.ensures.passes
 
 pub returns-in-UntestableFrom-clause-exact : goal.returns-in-UntestableFrom-clause-exact
 returns-in-UntestableFrom-clause-exact c =
-    carried c.refutes_from.result (Passes c.args.kept.now.circuit c.args.start.now c.args.fault c.args.budget) c.in-UntestableFrom.is
+    carried c.refutes_from.result (Passes c.args.kept.now.circuit c.args.start.now c.args.fault c.args.budget)
+    c.in-UntestableFrom.is
     c.refutes_from.ensures.passes
 
 pub returns-in-UndetectableBySets-clause-exact : goal.returns-in-UndetectableBySets-clause-exact
@@ -34,5 +36,6 @@ returns-in-UndetectableByCubes-clause-exact c =
 
 pub returns-in-Aborted-clause-exact : goal.returns-in-Aborted-clause-exact
 returns-in-Aborted-clause-exact c =
-    carried c.is_abort_record.result (Passes c.args.kept.now.circuit c.args.start.now c.args.fault c.args.budget) c.in-Aborted.is
+    carried c.is_abort_record.result (Passes c.args.kept.now.circuit c.args.start.now c.args.fault c.args.budget)
+    c.in-Aborted.is
     c.is_abort_record.ensures.passes
