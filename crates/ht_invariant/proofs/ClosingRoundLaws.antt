@@ -41,15 +41,6 @@ module _ (c : Netlist) where
         → IsClosingRound c budget initial before
     lead_end before lead = subst (IsClosingRound c budget initial) (append-nil before) (lead [] tt)
 
-pub round_begins : (c : Netlist) (budget : ℕ) (clauses : List Clause) → knows_each c clauses ≡ true
-    → IsUnderWay c budget clauses clauses 0
-round_begins c budget clauses known = record {
-  within = omega arith;
-  few = omega arith;
-  known_each = known;
-  leads = λ walks h. record { walks = walks; answers = h; stay = refl };
-}
-
 module _ (c : Netlist) (budget : ℕ) (initial clauses : List Clause) (i : ℕ)
     (way : IsUnderWay c budget initial clauses i) where
   pub round_ends : length clauses ≤ i → IsClosingRound c budget initial clauses
@@ -128,21 +119,10 @@ module _ (c : Netlist) (budget : ℕ) (initial clauses : List Clause) (i : ℕ)
               (lead_here None answer)));
         }
 
-    pub shorter : (new : List Clause) → new ≡ remove clauses i → length new < length clauses
-    shorter new new_is =
-        let at : suc i ≡ i + 1 = omega arith in
-        let joined : new ≡ before ++ rest = new_is ∙ ap (λ (n : ℕ). before ++ drop n clauses) at in
-        let long = ap length joined ∙ length-append before rest in
-        let all = sym (ap length whole) ∙ length-append before (k ∷ rest) in
-        omega (arith, long, all)
-
 -- The rounds so far: what they come to from here, they come to from the first clauses.
 abbrev pub RoundsLead : Netlist → ℕ → List Clause → List Clause → Type 0
 RoundsLead c budget initial clauses = (n : ℕ) (kept : List Clause) → AreClosingRounds c budget n clauses kept
     → (m : ℕ) × AreClosingRounds c budget m initial kept
-
-pub rounds_begin : (c : Netlist) (budget : ℕ) (clauses : List Clause) → RoundsLead c budget clauses clauses
-rounds_begin c budget clauses n kept h = (n, h)
 
 pub rounds_go_on : (c : Netlist) (budget : ℕ) (initial clauses next : List Clause) → RoundsLead c budget initial clauses
     → IsClosingRound c budget clauses next → length next < length clauses → RoundsLead c budget initial next

@@ -1,5 +1,5 @@
 -- Where the walk back from a next state begins.
-use Rattle.std.proofs.Common.{◌≡◌, ◌<◌, List, [], ◌∷◌, Bool, true, false, ◌&&◌, cond, Some, length, refl, subst, arith}
+use Rattle.std.proofs.Common.{◌≡◌, ◌<◌, List, [], ◌∷◌, Bool, true, false, cond, Some, length, refl, subst, arith}
 use Rattle.std.specs.List.{find}
 use Rattle.std.proofs.lemmas.Bool.{and_parts, ltb-true}
 use Rattle.ht_net.specs.Netlist.{IsCircuit}
@@ -12,10 +12,6 @@ use Rattle.ht_tree.specs.WalkBack.{CanWalk}
 use Rattle.ht_tree.proofs.UndeterminedLaws.{forced_undetermined}
 use Rattle.ht_tree.specs.declared.clause.Literal.{Literal}
 use Rattle.ht_invariant.specs.Trials.{knows}
-
-pub and_one : (b : Bool) → (b && true) ≡ b
-and_one true = refl
-and_one false = refl
 
 module _ (w : SearchWindow) (path : List Assign3) (circuit : IsCircuit w.circuit) (one : w.frames ≡ 1) where
   abbrev open_at : Literal → Bool

@@ -1,5 +1,5 @@
 -- Candidates that are offered one after the other.
-use Rattle.std.proofs.Common.{◌≡◌, ◌<◌, ◌≤◌, ◌+◌, ◌-◌, ◌∙◌, ℕ, suc, zero, List, [], ◌∷◌, ◌++◌, Bool, true, false, cond, length, take, refl, sym, ap, arith, append_assoc, length-append}
+use Rattle.std.proofs.Common.{◌≡◌, ◌+◌, ◌-◌, ◌∙◌, ℕ, suc, zero, List, [], ◌∷◌, ◌++◌, Bool, length, take, refl, sym, ap, arith, append_assoc, length-append}
 use Rattle.std.specs.Prelude.{flat_map}
 use Rattle.std.specs.List.{filter, range_with_len}
 use Rattle.std.proofs.lemmas.List.{append-nil, length-take}
@@ -38,28 +38,6 @@ module _ (test : Clause → Bool) (kept : List Clause) where
       ∙ ap (λ (zs : List Clause). kept ++ zs)
       (ap (λ (k : ℕ). take room first ++ take k rest) left
       ∙ (sym (take_append room first rest) ∙ ap (take room) (sym (filter-append test xs ys))))
-
-  pub offered_none : offered test kept [] ≡ kept
-  offered_none =
-      ap (λ (zs : List Clause). kept ++ zs) (take_nil {X = Clause} (max_clauses - length kept)) ∙ append-nil kept
-
-  pub offered_full : (candidate : Clause) → max_clauses ≤ length kept → kept ≡ offered test kept (candidate ∷ [])
-  offered_full candidate full =
-      let none : max_clauses - length kept ≡ 0 = omega (arith, full) in
-      sym (ap (λ (k : ℕ). kept ++ take k (filter test (candidate ∷ []))) none ∙ append-nil kept)
-
-  pub offered_fails : (candidate : Clause) → test candidate ≡ false → kept ≡ offered test kept (candidate ∷ [])
-  offered_fails candidate fails =
-      let room = max_clauses - length kept in
-      sym (ap (λ (b : Bool). kept ++ take room (cond b (candidate ∷ []) [])) fails ∙ offered_none)
-
-  pub offered_passes : (candidate : Clause) → length kept < max_clauses → test candidate ≡ true
-      → kept ++ candidate ∷ [] ≡ offered test kept (candidate ∷ [])
-  offered_passes candidate room passes =
-      let some : max_clauses - length kept ≡ suc (max_clauses - length kept - 1) = omega (arith, room) in
-      sym (ap (λ (b : Bool). kept ++ take (max_clauses - length kept) (cond b (candidate ∷ []) [])) passes
-      ∙ (ap (λ (k : ℕ). kept ++ take k (candidate ∷ [])) some
-      ∙ ap (λ (zs : List Clause). kept ++ candidate ∷ zs) (take_nil {X = Clause} (max_clauses - length kept - 1))))
 
 range_push : (a n : ℕ) → range_with_len a (n + 1) ≡ range_with_len a n ++ (a + n) ∷ []
 range_push a n = let e : n + 1 ≡ suc n = omega arith in ap (range_with_len a) e ∙ by a n

@@ -1,11 +1,9 @@
 -- The states of some frames, one by one.
-use Rattle.std.proofs.Common.{◌≡◌, ◌<◌, ◌+◌, ◌∙◌, ◌&&◌, ℕ, suc, List, [], ◌∷◌, ◌++◌, map, Bool, None, length, get_or, drop, refl, sym, ap, arith}
+use Rattle.std.proofs.Common.{◌≡◌, ◌+◌, ◌∙◌, ℕ, suc, List, [], ◌∷◌, ◌++◌, map, Bool, None, length, refl, sym, ap, arith}
 use Rattle.std.specs.List.{range_with_len}
-use Rattle.std.proofs.lemmas.List.{at_drop_more}
 use Rattle.std.proofs.lemmas.List.FromFn.{map-range_with_len_more}
 use Rattle.ht_net.specs.Netlist.{Netlist}
-use Rattle.ht_net.specs.Frame.{next_state, run_state}
-use Rattle.ht_net.proofs.ValueLaws.{next_long}
+use Rattle.ht_net.specs.Frame.{next_state}
 use Rattle.ht_net.specs.Faults.{bool_rules}
 use Rattle.ht_random.specs.RandomVectors.{generator_after, random_vector, random_vectors}
 use Rattle.ht_random.specs.Words.{after_words}
@@ -13,18 +11,7 @@ use Rattle.ht_random.proofs.RandomVectorLaws.{generator_after_more}
 use Rattle.rand_pcg.specs.Lcg.{Lcg}
 use Rattle.ht_serial.specs.MachineState.{MachineState}
 use Rattle.ht_serial.proofs.RunLaws.{run_state_more}
-use Rattle.ht_tree.specs.declared.clause.Clause.{Clause}
-use Rattle.ht_tree.specs.Clauses.{literals_of, meets}
-use Rattle.ht_invariant.specs.FoundClauses.{is_met_by_each, state_after, tried_frames}
-
--- one more state of which a clause is asked
-pub row_step : (states : List (List Bool)) (clause : Clause) (k : ℕ) (row : List Bool) (b : Bool) → k < length states
-    → row ≡ get_or states k [] → b ≡ meets row (literals_of clause)
-    → is_met_by_each (drop k states) clause ≡ (b && is_met_by_each (drop (k + 1) states) clause)
-row_step states clause k row b inside is answer =
-    at_drop_more (λ (rows : List (List Bool)). is_met_by_each rows clause) states k [] inside
-    ∙ ap (λ (t : Bool). t && is_met_by_each (drop (k + 1) states) clause)
-    (ap (λ (row : List Bool). meets row (literals_of clause)) (sym is) ∙ sym answer)
+use Rattle.ht_invariant.specs.FoundClauses.{state_after, tried_frames}
 
 pub frames_are : tried_frames ≡ 64
 unfolding tried_frames
@@ -40,13 +27,6 @@ pub record AreTried (c : Netlist) (state : List Bool) (k : ℕ) (states : List (
   pub words_are : words ≡ generator_after c.inputs k 0
 
 module _ (c : Netlist) (state : List Bool) (held : length state ≡ length c.dffs) where
-  pub long : (k : ℕ) → length (state_after c state k) ≡ length c.dffs
-  long k = by (random_vectors c.inputs k 0) state held where
-    by : (vectors : List (List Bool)) (s : List Bool) → length s ≡ length c.dffs
-        → length (run_state c (bool_rules None) s vectors) ≡ length c.dffs
-    by [] s h = h
-    by (v ∷ vectors) s h = by vectors (next_state c (bool_rules None) v s) (next_long c (bool_rules None) v s)
-
   pub state_more : (k : ℕ) (vector : List Bool) → vector ≡ random_vector c.inputs (generator_after c.inputs k 0)
       → next_state c (bool_rules None) vector (state_after c state k) ≡ state_after c state (k + 1)
   state_more k vector is =

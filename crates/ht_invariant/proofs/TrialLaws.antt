@@ -1,7 +1,6 @@
 -- What a window under clauses says of the node where its decisions stand.
-use Rattle.std.proofs.Common.{◌≡◌, ◌∙◌, ℕ, List, [], ◌∷◌, true, false, Option, IsTrue, sym, ap, subst}
+use Rattle.std.proofs.Common.{◌≡◌, ◌∙◌, ℕ, List, [], ◌∷◌, true, false, IsTrue, sym, ap, subst}
 use Rattle.ht_tern.specs.declared.tern.Tern.{Tern}
-use Rattle.ht_net.specs.declared.fault.Fault.{Fault}
 use Rattle.ht_net.specs.Netlist.{Netlist}
 use Rattle.ht_tree.specs.declared.token.Assign3.{Assign3}
 use Rattle.ht_tree.specs.declared.token.Choice.{Choice}
@@ -9,7 +8,7 @@ use Rattle.ht_tree.specs.declared.token.Choice.TheVariants as choice
 use Rattle.ht_tree.specs.declared.token.Status3.TheVariants as status3
 use Rattle.ht_tree.specs.Walks.{Node, Fits, decides, path_of}
 use Rattle.ht_tree.specs.Searches.{deciding_token, guide_of}
-use Rattle.ht_tree.specs.Windows.{Start, one_frame, unknown, state_pair, back, IsStart, SearchWindow, IsWindow}
+use Rattle.ht_tree.specs.Windows.{Start, one_frame, unknown, state_pair, back, SearchWindow, IsWindow}
 use Rattle.ht_tree.specs.Variables.{IsLegalChoice, may_two, may_three}
 use Rattle.ht_tree.specs.Counts.{seeks_difference}
 use Rattle.ht_tree.proofs.DifferenceLaws.{window_stays}
@@ -33,16 +32,6 @@ seeks_one (one_frame z) h = h
 seeks_one unknown h = cc
 seeks_one (state_pair good faulty) h = cc
 seeks_one (back cube limit) h = cc
-
-frames_by : (c : Netlist) (fault : Option Fault) (frames : ℕ) (s : Start) → is_one_frame s ≡ true
-    → IsStart c fault frames s → frames ≡ 1
-frames_by c fault frames (one_frame z) h is = is
-frames_by c fault frames unknown h is = cc
-frames_by c fault frames (state_pair good faulty) h is = cc
-frames_by c fault frames (back cube limit) h is = cc
-
-pub one_frame_long : (w : SearchWindow) → is_one_frame w.start ≡ true → IsWindow w → w.frames ≡ 1
-one_frame_long w h valid = frames_by w.circuit w.fault w.frames w.start h valid.start
 
 sought_known : (c : Netlist) (sought : Sought) → knows_sought c sought ≡ true → IsSought c (sought_of sought)
 sought_known c Difference h = tt
