@@ -1,5 +1,5 @@
 -- What the answers of the search for a list that synchronizes mean.
-use Rattle.std.proofs.Common.{◌≡◌, ◌<◌, ◌≤◌, ◌+◌, ◌-◌, ℕ, List, [], ◌∷◌, Bool, length, get_or, refl, sym, ◌∙◌, ap, arith, subst}
+use Rattle.std.proofs.Common.{◌≡◌, ◌<◌, ◌≤◌, ◌+◌, ◌-◌, ℕ, List, [], ◌∷◌, Bool, length, get_or, sym, ◌∙◌, ap, arith, subst}
 use Rattle.ht_net.specs.Netlist.{Netlist}
 use Rattle.ht_net.specs.Rows.{Rows}
 use Rattle.ht_tree.specs.Budgets.{sweep_cost}
@@ -45,21 +45,6 @@ module _ (c : Netlist) (frames budget : ℕ) (list : Rows) (finds : FindsSyncLis
   list_synchronizes some =
       subst (λ (vs : List (List Bool)). Synchronizes c vs) (sym vectors_are)
       (found_synchronizes c frames budget frames finds.tokens (node_at finds.path) some finds.found)
-
--- a circuit without flip-flops
-pub none_to_synchronize : (c : Netlist) (budget : ℕ) → length c.dffs ≡ 0
-    → SynchronizesTo c [] []
-    → IsShortest c (record { width = c.inputs; list = [] }) [] []
-none_to_synchronize c budget none ends = record {
-  width = refl;
-  wide = λ k d h. absurd (omega arith);
-  few = omega arith;
-  ends = ends;
-  each = ends_each_run c [] [] ends;
-  walked = omega arith;
-  complete = λ k h. absurd (omega arith);
-  none = λ list h. absurd (omega (arith, h));
-}
 
 module _ (c : Netlist) (budget : ℕ) (list : Rows) (walks : List (List Token)) (latches : 0 < length c.dffs)
     (finds : FindsAfter (sync_guide c) (FindsSyncList c) budget list walks) where

@@ -1,6 +1,6 @@
 -- The latches of a window, one by one.
 use Rattle.std.specs.List.{find, list_any, range_with_len}
-use Rattle.std.proofs.Common.{◌≡◌, ◌<◌, ◌≤◌, ◌+◌, ◌-◌, ℕ, suc, List, [], ◌∷◌, Bool, true, false, not, ◌&&◌, ◌||◌, cond, Some, None, length, refl, sym, ◌∙◌, ap, arith}
+use Rattle.std.proofs.Common.{◌≡◌, ◌<◌, ◌+◌, ◌-◌, ℕ, suc, List, ◌∷◌, Bool, true, false, not, ◌&&◌, ◌||◌, cond, Some, length, refl, sym, ◌∙◌, ap, arith}
 use Rattle.ht_pairs.specs.Pairs.{Pair}
 use Rattle.ht_tree.specs.Windows.{SearchWindow, is_undetermined}
 use Rattle.ht_tree.specs.declared.token.Assign3.{Assign3}
@@ -15,19 +15,9 @@ module _ (n j : ℕ) where
   from_here : j < n → from j n ≡ j ∷ from (j + 1) n
   from_here inside = let e : n - j ≡ suc (n - (j + 1)) = omega (arith, inside) in ap (range_with_len j) e
 
-  from_end : n ≤ j → from j n ≡ []
-  from_end past = let e : n - j ≡ 0 = omega (arith, past) in ap (range_with_len j) e
-
-pub from_all : (n : ℕ) → range_with_len 0 n ≡ from 0 n
-from_all n = let e : n ≡ n - 0 = omega arith in ap (range_with_len 0) e
-
 or_true : (b : Bool) → (b || true) ≡ true
 or_true true = refl
 or_true false = refl
-
-or_false : (b : Bool) → (b || false) ≡ b
-or_false true = refl
-or_false false = refl
 
 module _ (w : SearchWindow) (path : List Assign3) where
   abbrev m : ℕ
@@ -46,9 +36,6 @@ module _ (w : SearchWindow) (path : List Assign3) where
   pub record IsSeen (j : ℕ) (some : Bool) : Type 0 where
     pub must_is : list_any must (flip_flops w.circuit) ≡ list_any must (from j m)
     pub may_is : list_any may (flip_flops w.circuit) ≡ (some || list_any may (from j m))
-
-  pub seen_none : IsSeen 0 false
-  seen_none = record { must_is = ap (list_any must) (from_all m); may_is = ap (list_any may) (from_all m) }
 
   module _ (j : ℕ) (some : Bool) (seen : IsSeen j some) where
     module _ (inside : j < m) (set : List Pair) (is : set ≡ last_set w path j) where
@@ -87,18 +74,9 @@ module _ (w : SearchWindow) (path : List Assign3) where
         may_is = may_from false (may_here false e);
       }
 
-    pub see_end : m ≤ j → sync_status w path ≡ cond some Open Sure
-    see_end past =
-        let none = ap (list_any must) (from_end m j past) in
-        let rest = ap (λ (js : List ℕ). some || list_any may js) (from_end m j past) in
-        (λ i. cond ((seen.must_is ∙ none) i) Dead (cond ((seen.may_is ∙ (rest ∙ or_false some)) i) Open Sure))
-
   -- from latch j on: it is undetermined, or what is left is after it
   pub find_from : (j : ℕ) (b : Bool) (set : List Pair) → j < m → set ≡ last_set w path j → is_undetermined set ≡ b
       → find undetermined (from j m) ≡ cond b (Some j) (find undetermined (from (j + 1) m))
   find_from j b set inside is e =
       ap (find undetermined) (from_here m j inside)
       ∙ ap (λ (x : Bool). cond x (Some j) (find undetermined (from (j + 1) m))) (ap is_undetermined (sym is) ∙ e)
-
-  pub find_end : (j : ℕ) → m ≤ j → find undetermined (from j m) ≡ None
-  find_end j past = ap (find undetermined) (from_end m j past)
