@@ -1,13 +1,10 @@
 -- Marks of the faults that are to be worked on.
-use Rattle.std.proofs.Common.{◌≡◌, ◌⊎◌, ◌↔◌, ◌<◌, ◌≤◌, ◌+◌, ◌-◌, ◌++◌, ℕ, suc, zero, List, [], ◌∷◌, Bool, true, false, Option, Some, None, take, length, get_or, replicate, set, refl, inl, inr, arith, ap, sym, ◌∙◌, subst}
-use Rattle.std.specs.Prelude.{unwrap_or}
-use Rattle.std.proofs.lemmas.Bool.{cases_eq, cases_lt, false≢true}
-use Rattle.std.proofs.lemmas.List.{get_or-replicate, get_or-set_other, get_or-set_same, get_or_past, length-replicate, take_more}
+use Rattle.std.proofs.Common.{◌≡◌, ◌⊎◌, ◌↔◌, ◌<◌, ◌+◌, ◌-◌, ◌++◌, ℕ, suc, zero, List, [], ◌∷◌, Bool, true, false, take, length, get_or, refl, inl, inr, arith, sym, ◌∙◌, subst}
+use Rattle.std.proofs.lemmas.List.{take_more}
 use Rattle.std.proofs.lemmas.List.Elements.{Contains-append_cases, Contains-append_left, Contains-append_right}
 use Rattle.ht_net.specs.Netlist.{Netlist}
 use Rattle.ht_faults.specs.Classes.{AreClasses}
-use Rattle.ht_engine.specs.declared.settings.Settings.{Settings}
-use Rattle.ht_engine.specs.Marks.{AreListedNumbers, AreMarks, MarksAny}
+use Rattle.ht_engine.specs.Marks.{AreListedNumbers, MarksAny}
 use Rattle.ht_engine.specs.Steps.{AnyInClass, IsInClass}
 
 -- each representative is the number of a fault
@@ -24,25 +21,6 @@ classes_listed c representatives classes i l =
 abbrev pub MarksOneMore : List ℕ → ℕ → List Bool → List Bool → Type 0
 MarksOneMore representatives n old new =
     (i : ℕ) → (get_or new i false ≡ true) ↔ ((get_or old i false ≡ true) ⊎ IsInClass representatives n i)
-
-module _ (representatives : List ℕ) (n own : ℕ) (marks : List Bool) where
-  pub one_marked : 0 < n → n ≤ length representatives → own ≡ get_or representatives (n - 1) 0 → own < length marks
-      → MarksOneMore representatives n marks (set marks own true)
-  one_marked counted listed is room i = elim (cases_eq i own) [
-    | inl same ↦ (
-      λ h. inr (record { counted = counted; listed = listed; class = sym is ∙ sym same }),
-      λ h. ap (λ (k : ℕ). get_or (set marks own true) k false) same ∙ get_or-set_same marks own true false room,
-    )
-    | inr other ↦
-        let kept : get_or (set marks own true) i false ≡ get_or marks i false =
-        get_or-set_other marks own i true false other in (
-          λ h. inl (sym kept ∙ h),
-          λ h. elim h [ inl before ↦ kept ∙ before | inr here ↦ absurd (other (sym (is ∙ here.class))) ],
-        )
-  ]
-
-  pub none_marked : (0 < n → n ≤ length representatives → ⊥) → MarksOneMore representatives n marks marks
-  none_marked none i = (λ h. inl h, λ h. elim h [ inl before ↦ before | inr here ↦ absurd (none here.counted here.listed) ])
 
 -- ---- more numbers
 
@@ -91,48 +69,3 @@ marks_on representatives numbers k d old read new l so_far is same one =
     subst (λ (ns : List ℕ). MarksAny representatives ns new) (sym (take_more numbers k d l))
     (marks_more representatives (take k numbers) (get_or numbers k d) read new
     (subst (MarksAny representatives (take k numbers)) (sym is) so_far) same one)
-
--- nothing is marked for no number
-unmarked : (n i : ℕ) → get_or (replicate n false) i false ≡ false
-unmarked n i = elim (cases_lt i n) [
-  | inl l ↦ get_or-replicate n i false false l
-  | inr past ↦ get_or_past (replicate n false) i false (subst (λ (k : ℕ). k ≤ i) (sym (length-replicate n false)) past)
-]
-
-pub none_any : (representatives : List ℕ) (n : ℕ) → n ≡ length representatives
-    → MarksAny representatives [] (replicate n false)
-none_any representatives n is = record {
-  each = length-replicate n false ∙ is;
-  any = λ i. (
-    λ h. absurd (false≢true (sym (unmarked n i) ∙ h)),
-    λ h. let l = h.1.1 in absurd (omega (arith, l)),
-  );
-}
-
--- ---- the choice of some settings
-
-pub marks_by_choice : (representatives numbers : List ℕ) (settings : Settings) (marks : List Bool)
-    → settings.chosen ≡ Some numbers → MarksAny representatives numbers marks
-    → AreMarks representatives settings marks
-marks_by_choice representatives numbers settings marks is any = record {
-  each = any.each;
-  chosen = λ i l. (
-    λ h. λ given there.
-        subst (λ (numbers : List ℕ). AnyInClass representatives numbers i)
-        (ap (λ (o : Option (List ℕ)). unwrap_or o []) (sym is ∙ there)) ((any.any i).0 h),
-    λ h. (any.any i).1 (h numbers is),
-  );
-}
-
-none_given : (numbers : List ℕ) → None ≡ Some numbers → ⊥
-none_given numbers is = cc
-
-pub marks_all : (representatives : List ℕ) (settings : Settings) (n : ℕ) → settings.chosen ≡ None
-    → n ≡ length representatives → AreMarks representatives settings (replicate n true)
-marks_all representatives settings n is count = record {
-  each = length-replicate n true ∙ count;
-  chosen = λ i l. (
-    λ h. λ given there. absurd (none_given given (sym is ∙ there)),
-    λ h. get_or-replicate n i true false (omega (arith, l, count)),
-  );
-}

@@ -16,7 +16,7 @@ use Rattle.ht_engine.specs.declared.settings.Settings.{Settings}
 use Rattle.ht_engine.specs.declared.work.Work.{Work}
 use Rattle.ht_engine.specs.declared.work.Work.TheVariants as work
 use Rattle.ht_engine.specs.Attempts.{DetectsAlways}
-use Rattle.ht_engine.specs.DeepWork.{DeepWorkHolds, DetectsAfter, HoldsAfter, IsDeepWork, IsOpenWork, IsWorkOnward, NoneCloses, ShowsOn, SpendsOn}
+use Rattle.ht_engine.specs.DeepWork.{DeepWorkHolds, DetectsAfter, HoldsAfter, IsDeepWork, IsOpenWork, IsWorkOnward, ShowsOn}
 use Rattle.ht_engine.specs.Enough.{IsRefutation}
 use Rattle.ht_engine.specs.FaultWork.{IsListWork, IsWork, PassesAlways, StaysOpen, WorkHolds}
 use Rattle.ht_engine.proofs.EnoughLaws.{EntryPasses, aborted_is_other}
@@ -66,23 +66,6 @@ module _ (c : Netlist) (fault : Fault) (settings : Settings) (states : window.St
   open_deep under (work.Entry (Aborted told walk aim walks)) is = (under, is)
 
 -- ---- the sweep from the states reached
-
-module _ (c : Netlist) (fault : Fault) (settings : Settings) (states : window.Start)
-    (none : NoneCloses c fault settings.start) where
-  spent_is : (entry : Entry) → IsListWork c fault settings.budget (work.Entry entry)
-      → SpendsOn c fault settings.budget states → IsOpenWork c fault settings states (work.Entry entry)
-  spent_is (Untestable z tokens) is spends = absurd is
-  spent_is (UntestableFrom state clauses z tokens) is spends = absurd is
-  spent_is (UndetectableBySets rows) is spends = absurd is
-  spent_is (UndetectableByCubes cubes steps) is spends = absurd is
-  spent_is (Aborted told walk aim walks) is spends = (none, is, spends)
-
-  pub onward_is : (entry : Entry) → IsListWork c fault settings.budget (work.Entry entry) → (w : Work)
-      → IsWorkOnward c fault settings.budget states entry w → IsOpenWork c fault settings states w
-  onward_is entry given_up (work.List list) is =
-      (none, inr (record { entry = entry; gives_up = given_up; found = is }))
-  onward_is entry given_up (work.Entry given) is = subst (λ (e : Entry). IsOpenWork c fault settings states (work.Entry e)) (sym is.0)
-      (spent_is entry given_up is.1)
 
 pub onward_holds : (c : Netlist) (fault : Fault) (settings : Settings) (states : window.Start) (good faulty : List Tern)
     (entry : Entry) → PassesAlways c fault settings.budget entry → (w : Work)

@@ -4,22 +4,9 @@ use Rattle.std.proofs.Common.{◌≡◌, ◌<◌, ◌≤◌, ◌+◌, ◌++◌, 
 use Rattle.std.proofs.lemmas.List.{drop_all, drop_more}
 use Rattle.ht_random.specs.RandomVectors.{generator_after, random_vector, random_vectors}
 use Rattle.ht_random.specs.WeightedVectors.{weighted_vector, weighted_vectors}
-use Rattle.ht_random.specs.Words.{after_words}
-use Rattle.ht_random.proofs.RandomVectorLaws.{generator_after_more, random_vector_at, random_vector_length, random_vectors_count}
+use Rattle.ht_random.proofs.RandomVectorLaws.{random_vector_at, random_vector_length, random_vectors_count}
 use Rattle.ht_random.proofs.WeightedLaws.{weighted_vector_at, weighted_vector_length, weighted_vectors_count}
-use Rattle.ht_engine.specs.FirstVectors.{Draws, FirstView, rest_of}
-
--- ---- the given vectors
-
-module _ (v : FirstView) (list : List (List Bool)) (k : ℕ) (there : k < length list) (is : v.given ≡ drop k list) where
-  pub given_drawn : (vector : List Bool) → vector ≡ get_or list k [] → length vector ≡ v.width
-      → Draws v vector (record v { given = drop (k + 1) list })
-  given_drawn vector vector_is wide = record {
-    first = ap (λ (l : List (List Bool)). l ++ v.random ++ v.weighted)
-        (is ∙ drop_more list k [] there ∙ ap (λ (x : List Bool). x ∷ drop (k + 1) list) (sym vector_is));
-    wide = wide;
-    width = refl;
-  }
+use Rattle.ht_engine.specs.FirstVectors.{Draws, FirstView}
 
 -- ---- the random vectors
 
@@ -43,11 +30,6 @@ module _ (v : FirstView) (count seed k : ℕ) (there : k < count) (none : v.give
         wide = ap (λ (x : List Bool). length x) vector_is ∙ random_vector_length v.width words;
         width = refl;
       }
-
-pub words_after : (n k seed : ℕ) (words after : Lcg) → words ≡ generator_after n k seed → after ≡ after_words n words
-    → after ≡ generator_after n (k + 1) seed
-words_after n k seed words after words_are after_is =
-    after_is ∙ ap (after_words n) words_are ∙ sym (generator_after_more n k seed)
 
 pub random_all_came : (n count seed k : ℕ) → count ≤ k → drop k (random_vectors n count seed) ≡ []
 random_all_came n count seed k over =
@@ -80,13 +62,6 @@ pub weighted_all_came : (n count seed k : ℕ) → count ≤ k → drop k (weigh
 weighted_all_came n count seed k over =
     let long = weighted_vectors_count n count seed in
     drop_all k (weighted_vectors n count seed) (omega (arith, over, long))
-
--- where none of each sort is left, none is left at all
-pub none_left : (v : FirstView) → v.given ≡ [] → v.random ≡ [] → v.weighted ≡ [] → rest_of v ≡ []
-none_left v given random weighted =
-    ap (λ (l : List (List Bool)). l ++ v.random ++ v.weighted) given
-    ∙ ap (λ (l : List (List Bool)). l ++ v.weighted) random
-    ∙ weighted
 
 -- what was drawn by its fields was drawn
 pub draws_by : (v now : FirstView) (vector : List Bool) (new : FirstView) → v ≡ now → Draws v vector new
