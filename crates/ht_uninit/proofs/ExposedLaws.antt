@@ -1,9 +1,9 @@
 -- Marking what leads out.
 use Rattle.std.specs.Prelude.{eqb, ◌==◌, ◌↔◌}
-use Rattle.std.proofs.Common.{◌≡◌, ◌⊎◌, ◌<◌, ◌≤◌, ◌+◌, ◌-◌, ℕ, suc, zero, List, [], ◌∷◌, ◌++◌, Bool, true, false, not, ◌||◌, cond, length, get_or, set, replicate, refl, sym, ◌∙◌, ap, inl, inr, arith, subst, get_or-set_other, get_or-set_same}
+use Rattle.std.proofs.Common.{◌≡◌, ◌⊎◌, ◌<◌, ◌≤◌, ◌+◌, ◌-◌, ℕ, suc, zero, List, [], ◌∷◌, ◌++◌, Bool, true, false, not, ◌||◌, cond, length, get_or, set, refl, sym, ◌∙◌, ap, inl, inr, arith, subst, get_or-set_other, get_or-set_same}
 use Rattle.std.proofs.lemmas.Bool.{false≢true, false_from_ne_true, not_from_false, or_cases, true_from_ne_false}
 use Rattle.std.proofs.lemmas.Bool.Decides.{eqb_tells, nat_tests}
-use Rattle.std.proofs.lemmas.List.{length-replicate, length-set, length_push, set-get_or}
+use Rattle.std.proofs.lemmas.List.{length-set, length_push, set-get_or}
 use Rattle.std.proofs.lemmas.List.Folds.{list_any-append}
 use Rattle.std.proofs.lemmas.List.Sums.{sum_by-set}
 use Rattle.ht_net.specs.declared.fault.Fault.{Fault}
@@ -375,27 +375,6 @@ pub pop_known : (c : Netlist) (mute : ℕ → Bool) (outputs : ℕ) (marks : Lis
     → AreExposed c mute outputs marks (todo ++ n ∷ []) (nothing c) 0 → n.0 < net_count c
 pop_known c mute outputs marks todo n h =
     marked_known c mute outputs marks (todo ++ n ∷ []) (nothing c) 0 h n.0 (h.waiting n.0 (waits_new todo n))
-
-none_marked : (m x : ℕ) → is_marked (replicate m false) x ≡ false
-none_marked zero x = refl
-none_marked (suc m) zero = refl
-none_marked (suc m) (suc x) = none_marked m x
-
--- nothing is marked
-pub start_exposed : (c : Netlist) (mute : ℕ → Bool) (marks : List Bool) → marks ≡ replicate (net_count c) false
-    → AreExposed c mute 0 marks [] (nothing c) 0
-start_exposed c mute marks is =
-    let off : (x : ℕ) → is_marked marks x ≡ false =
-    λ x. ap (λ (ms : List Bool). is_marked ms x) is ∙ none_marked (net_count c) x in
-    record {
-      long = ap (λ (ms : List Bool). length ms) is ∙ length-replicate (net_count c) false;
-      leads = λ x m. absurd (false≢true (sym (off x) ∙ m));
-      waiting = λ y w. absurd (false≢true w);
-      working = λ l. absurd (omega (arith, l));
-      heard = λ o l. absurd (omega (arith, l));
-      gates = λ g i l m k. absurd (false≢true (sym (off (first_gate_net c + g)) ∙ k));
-      dffs = λ j l k. absurd (false≢true (sym (off (c.inputs + j)) ∙ k));
-    }
 
 -- what an output came to
 pub mute_at : (outs : List Out3) (o : ℕ) (out : Out3) → o < length outs → out ≡ get_or outs o out
