@@ -1,5 +1,7 @@
 //! One round: the search of a one-frame window.
-ghost use Rattle.std.specs.Prelude.{◌≡◌, length, IfOk};
+ghost use Rattle.std.specs.Prelude.{◌≡◌, ℕ, List, [], length, IfOk};
+ghost use Rattle.ht_net.specs.Netlist.{Netlist};
+ghost use Rattle.ht_tree.specs.Windows.{one_frame_window};
 ghost use Rattle.ht_window.specs.Starts.{marked};
 ghost use Rattle.ht_oneframe.specs.Rounds.{IsRound, guide_in};
 
@@ -22,6 +24,50 @@ pub enum Round {
     Spent { tokens: Items<Token> },
 }
 
+// The one-frame window of a fault in which the states may differ at the flip-flops that are marked, before its search.
+fn one_frame_trial<'c>(
+    alloc: Global,
+    bases: &mut Bases<'c>,
+    fault: Fault,
+    marks: &[bool],
+) -> Result<Trial<'c>, AllocError>
+    requires { length marks.now ≡ length bases.old.circuit.dffs }
+    ensures circuit { bases.new.circuit ≡ bases.old.circuit }
+    ensures window { IfOk result (λ trial. trial.window.window
+        ≡ one_frame_window bases.old.circuit fault (marked 0 marks.now)) }
+    ensures decisions { IfOk result (λ trial. trial.window.decisions ≡ []) }
+{
+    // for the proof: the circuit is well formed
+    let _ = bases.circuit().nets();
+    let z = Items::from_slice(alloc, marks)?;
+    let start = Start::OneFrame { z };
+    let window = bases.window(alloc, Some(fault), 1, &start)?;
+    Ok(Trial { window })
+}
+
+// Searches a one-frame window.
+fn search_trial(alloc: Global, trial: &mut Trial, budget: u64) -> Result<Round, AllocError>
+    requires { trial.old.window.decisions ≡ [] }
+    ensures { IfOk result (λ round. (c : Netlist) (fault : Fault) (z : List ℕ)
+        → trial.old.window.window ≡ one_frame_window c fault z
+        → IsRound c fault (guide_in c fault) budget z round) }
+{
+    match explore(alloc, trial, budget, 1)? {
+        Outcome::Closed { tokens } => Ok(Round::Closed {
+            tokens: Items::from_vec(tokens),
+        }),
+        Outcome::Spent { tokens } => Ok(Round::Spent {
+            tokens: Items::from_vec(tokens),
+        }),
+        Outcome::Found { tokens: _ } => match trial.window.status() {
+            Status::Sure { frame: _, place } => Ok(Round::Told {
+                told: told_frame(alloc, &trial.window, place)?,
+            }),
+            Status::Dead | Status::Open => unreachable!(),
+        },
+    }
+}
+
 /// Searches the one-frame window of a fault in which the states may differ at the flip-flops that are marked. Each
 /// token takes one from the budget.
 ///
@@ -39,23 +85,6 @@ pub fn search_one_frame(
     ensures round { IfOk result (IsRound bases.old.circuit fault (guide_in bases.old.circuit fault)
         budget (marked 0 marks.now)) }
 {
-    // for the proof: the circuit is well formed
-    let _ = bases.circuit().nets();
-    let z = Items::from_slice(alloc, marks)?;
-    let window = bases.window(alloc, Some(fault), 1, &Start::OneFrame { z })?;
-    let mut trial = Trial { window };
-    match explore(alloc, &mut trial, budget, 1)? {
-        Outcome::Closed { tokens } => Ok(Round::Closed {
-            tokens: Items::from_vec(tokens),
-        }),
-        Outcome::Spent { tokens } => Ok(Round::Spent {
-            tokens: Items::from_vec(tokens),
-        }),
-        Outcome::Found { tokens: _ } => match trial.window.status() {
-            Status::Sure { frame: _, place } => Ok(Round::Told {
-                told: told_frame(alloc, &trial.window, place)?,
-            }),
-            Status::Dead | Status::Open => unreachable!(),
-        },
-    }
+    let mut trial = one_frame_trial(alloc, bases, fault, marks)?;
+    search_trial(alloc, &mut trial, budget)
 }
