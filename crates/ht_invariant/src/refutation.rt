@@ -1,12 +1,15 @@
 //! The refutation of a fault from one named state.
-ghost use Rattle.std.specs.Prelude.{◌≡◌, ◌≤◌, ℕ, List, Bool, true, length, IfOk};
+ghost use Rattle.std.specs.Prelude.{◌≡◌, ◌≤◌, ℕ, List, [], Bool, true, length, IfOk};
+ghost use Rattle.ht_net.specs.Netlist.{Netlist};
 ghost use Rattle.std.specs.List.{All};
 ghost use Rattle.ht_tree.specs.Budgets.{refutation_cost};
 ghost use Rattle.ht_tree.specs.Clauses.{IsClause, literals_of_each};
 ghost use Rattle.ht_tree.specs.Invariants.{IsInvariant};
 ghost use Rattle.ht_tree.specs.SealedInClauses.{SealedIn};
+ghost use Rattle.ht_tree.specs.Windows as windows;
 ghost use Rattle.ht_window.specs.Starts.{marked};
 ghost use Rattle.ht_oneframe.specs.Rounds.{IsRound};
+ghost use Rattle.ht_invariant.specs.declared.sought.Sought.TheVariants.{Difference};
 ghost use Rattle.ht_invariant.specs.Trials.{knows_each};
 ghost use Rattle.ht_invariant.specs.FromStates.{FromStateHolds, IsFromState, IsRefutedFrom, guide_from};
 
@@ -16,10 +19,10 @@ use crate::sought::Sought;
 use crate::trial::{ClauseTrial, explore_under};
 use ht_items::Items;
 use ht_net::{Circuit, Fault};
-use ht_oneframe::{Round, marked, told_frame};
+use ht_oneframe::{Round, marked, one_frame_window, told_frame};
 use ht_search::Outcome;
 use ht_tree::{Assign, Clause, Spot, Status, Token, Told};
-use ht_window::{Bases, Start};
+use ht_window::Bases;
 use std::alloc::{AllocError, Global};
 
 /// What the one-frame windows of a fault under the clauses of an invariant say of it. Flip-flops count from 0, and
@@ -44,6 +47,31 @@ pub enum FromState {
     },
 }
 
+// Searches a one-frame window under clauses for a difference.
+fn search_trial(alloc: Global, trial: &mut ClauseTrial, budget: u64) -> Result<Round, AllocError>
+    requires start { trial.old.window.decisions ≡ [] }
+    requires sought { trial.old.sought ≡ Difference }
+    ensures { IfOk result (λ round. (c : Netlist) (fault : Fault) (z : List ℕ)
+        → trial.old.window.window ≡ windows.one_frame_window c fault z
+        → IsRound c fault (guide_from c fault (literals_of_each trial.old.clauses.now)) budget z
+        round) }
+{
+    match explore_under(alloc, trial, budget)? {
+        Outcome::Closed { tokens } => Ok(Round::Closed {
+            tokens: Items::from_vec(tokens),
+        }),
+        Outcome::Spent { tokens } => Ok(Round::Spent {
+            tokens: Items::from_vec(tokens),
+        }),
+        Outcome::Found { tokens: _ } => match trial.window.status() {
+            Status::Sure { frame: _, place } => Ok(Round::Told {
+                told: told_frame(alloc, &trial.window, place)?,
+            }),
+            Status::Dead | Status::Open => unreachable!(),
+        },
+    }
+}
+
 // Searches the one-frame window of a fault and marked flip-flops under clauses. Each token takes one from the budget.
 fn search_under(
     alloc: Global,
@@ -60,29 +88,13 @@ fn search_under(
         (guide_from bases.old.circuit fault (literals_of_each clauses.now)) budget
         (marked 0 marks.now)) }
 {
-    // for the proof: the circuit is well formed
-    let _ = bases.circuit().nets();
-    let z = Items::from_slice(alloc, marks)?;
-    let window = bases.window(alloc, Some(fault), 1, &Start::OneFrame { z })?;
+    let window = one_frame_window(alloc, bases, fault, marks)?;
     let mut trial = ClauseTrial {
         window,
         sought: Sought::Difference,
         clauses,
     };
-    match explore_under(alloc, &mut trial, budget)? {
-        Outcome::Closed { tokens } => Ok(Round::Closed {
-            tokens: Items::from_vec(tokens),
-        }),
-        Outcome::Spent { tokens } => Ok(Round::Spent {
-            tokens: Items::from_vec(tokens),
-        }),
-        Outcome::Found { tokens: _ } => match trial.window.status() {
-            Status::Sure { frame: _, place } => Ok(Round::Told {
-                told: told_frame(alloc, &trial.window, place)?,
-            }),
-            Status::Dead | Status::Open => unreachable!(),
-        },
-    }
+    search_trial(alloc, &mut trial, budget)
 }
 
 /// Searches the one-frame windows of a fault under the clauses of an invariant, from no flip-flop on: each flip-flop

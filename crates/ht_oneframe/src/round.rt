@@ -1,7 +1,7 @@
 //! One round: the search of a one-frame window.
 ghost use Rattle.std.specs.Prelude.{◌≡◌, ℕ, List, [], length, IfOk};
 ghost use Rattle.ht_net.specs.Netlist.{Netlist};
-ghost use Rattle.ht_tree.specs.Windows.{one_frame_window};
+ghost use Rattle.ht_tree.specs.Windows as windows;
 ghost use Rattle.ht_window.specs.Starts.{marked};
 ghost use Rattle.ht_oneframe.specs.Rounds.{IsRound, guide_in};
 
@@ -10,7 +10,7 @@ use ht_items::Items;
 use ht_net::Fault;
 use ht_search::Outcome;
 use ht_tree::{Status, Token, Told};
-use ht_window::{Bases, Start, Trial, explore};
+use ht_window::{Bases, Start, Trial, Window, explore};
 use std::alloc::{AllocError, Global};
 
 /// What the search of a one-frame window comes to.
@@ -24,32 +24,34 @@ pub enum Round {
     Spent { tokens: Items<Token> },
 }
 
-// The one-frame window of a fault in which the states may differ at the flip-flops that are marked, before its search.
-fn one_frame_trial<'c>(
+/// The one-frame window of a fault in which the states may differ at the flip-flops that are marked.
+///
+/// # Errors
+/// Out of memory.
+pub fn one_frame_window<'c>(
     alloc: Global,
     bases: &mut Bases<'c>,
     fault: Fault,
     marks: &[bool],
-) -> Result<Trial<'c>, AllocError>
+) -> Result<Window<'c>, AllocError>
     requires { length marks.now ≡ length bases.old.circuit.dffs }
     ensures circuit { bases.new.circuit ≡ bases.old.circuit }
-    ensures window { IfOk result (λ trial. trial.window.window
-        ≡ one_frame_window bases.old.circuit fault (marked 0 marks.now)) }
-    ensures decisions { IfOk result (λ trial. trial.window.decisions ≡ []) }
+    ensures window { IfOk result
+        (λ w. w.window ≡ windows.one_frame_window bases.old.circuit fault (marked 0 marks.now)) }
+    ensures decisions { IfOk result (λ w. w.decisions ≡ []) }
 {
     // for the proof: the circuit is well formed
     let _ = bases.circuit().nets();
     let z = Items::from_slice(alloc, marks)?;
     let start = Start::OneFrame { z };
-    let window = bases.window(alloc, Some(fault), 1, &start)?;
-    Ok(Trial { window })
+    bases.window(alloc, Some(fault), 1, &start)
 }
 
 // Searches a one-frame window.
 fn search_trial(alloc: Global, trial: &mut Trial, budget: u64) -> Result<Round, AllocError>
     requires { trial.old.window.decisions ≡ [] }
     ensures { IfOk result (λ round. (c : Netlist) (fault : Fault) (z : List ℕ)
-        → trial.old.window.window ≡ one_frame_window c fault z
+        → trial.old.window.window ≡ windows.one_frame_window c fault z
         → IsRound c fault (guide_in c fault) budget z round) }
 {
     match explore(alloc, trial, budget, 1)? {
@@ -85,6 +87,7 @@ pub fn search_one_frame(
     ensures round { IfOk result (IsRound bases.old.circuit fault (guide_in bases.old.circuit fault)
         budget (marked 0 marks.now)) }
 {
-    let mut trial = one_frame_trial(alloc, bases, fault, marks)?;
+    let window = one_frame_window(alloc, bases, fault, marks)?;
+    let mut trial = Trial { window };
     search_trial(alloc, &mut trial, budget)
 }
