@@ -7,12 +7,15 @@ ghost use Rattle.ht_faults.specs.Classes.{AreClasses, fault_at};
 ghost use Rattle.ht_tree.specs.declared.limits.TheConstants.{MAX_BUDGET};
 ghost use Rattle.ht_texts.specs.SearchReports.{IsBudget};
 ghost use Rattle.ht_texts.specs.Verdicts.{IsSayable};
+ghost use Rattle.ht_proofs.specs.ClassGraderView.{ClassGraderStandsFor};
 ghost use Rattle.ht_valid.specs.ValidFiles.{IsOwn};
 ghost use Rattle.ht_engine.specs.declared.step.Step as made;
 ghost use Rattle.ht_engine.specs.declared.step.Step.TheVariants as made_step;
 ghost use Rattle.ht_engine.specs.declared.work.Work.TheVariants as work;
 ghost use Rattle.ht_engine.specs.OneStep.{AddsVectors, Advances, DrawsFirst, IsNextOf, IsNextUndetected, IsUndetected, IsWorkOn, said_by};
-ghost use Rattle.ht_engine.specs.Steps.{one_vector};
+ghost use Rattle.ht_engine.specs.FaultWork.{HoldsIfAny, IsNamedInvariant};
+ghost use Rattle.ht_engine.specs.FirstVectors.{rest_of};
+ghost use Rattle.ht_engine.specs.Steps.{first_vectors, one_vector};
 ghost use Rattle.ht_engine.specs.EngineStands.{EngineStandsFor, HasGraded, HasSameWork, IsSaid, Makes, MeansOfStep, remaining};
 
 use crate::chosen::mark_chosen;
@@ -49,6 +52,65 @@ fn said_by(kind: Option<EntryKind>) -> Said
         Some(EntryKind::Untestable) => Said::Untestable,
         Some(EntryKind::Undetectable) => Said::Undetectable,
         Some(EntryKind::Aborted) => Said::Aborted,
+    }
+}
+
+// The clauses that hold in each run from the start, with 0 where it is unknown.
+fn find_named(
+    alloc: Global,
+    circuit: &Circuit,
+    settings: &Settings,
+) -> Result<Invariant, AllocError>
+    requires { IsStart circuit.now settings.now.start }
+    ensures found { IfOk result
+        (IsNamedInvariant circuit.now settings.now.start settings.now.budget) }
+    ensures holds { IfOk result (HoldsIfAny circuit.now) }
+{
+    let start = settings.start.as_slice();
+    let named = some_state(alloc, start)?;
+    let named_invariant = find(alloc, circuit, &named, settings.budget)?;
+    Ok(named_invariant)
+}
+
+// What a generator grades its vectors with, copies its windows from, and draws its first vectors from.
+#[derive(Drop)]
+struct Tools<'c> {
+    grader: ClassGrader<'c>,
+    bases: Bases<'c>,
+    first: FirstVectors<'c>,
+}
+
+impl<'c> Tools<'c> {
+    // The tools before the first step.
+    fn new(
+        alloc: Global,
+        circuit: &'c Circuit,
+        faults: &FaultList,
+        classes: &'c Classes,
+        settings: &'c Settings,
+    ) -> Result<Tools<'c>, AllocError>
+        requires faults { faults.now ≡ faults_of circuit.now }
+        requires classes { AreClasses circuit.now classes.now }
+        requires latches { IsStart circuit.now settings.now.start }
+        requires first { settings.now.first.width ≡ circuit.now.inputs }
+        ensures circuit { IfOk result (λ tools. tools.grader.machines.circuit ≡ circuit.now) }
+        ensures classes { IfOk result (λ tools. tools.grader.representatives ≡ classes.now) }
+        ensures stands { IfOk result
+            (λ tools. ClassGraderStandsFor tools.grader settings.now.start []) }
+        ensures bases { IfOk result (λ tools. tools.bases.circuit ≡ circuit.now) }
+        ensures width { IfOk result (λ tools. tools.first.width ≡ circuit.now.inputs) }
+        ensures rest { IfOk result
+            (λ tools. rest_of tools.first ≡ first_vectors circuit.now settings.now) }
+    {
+        let first = FirstVectors::new(alloc, circuit.inputs(), settings)?;
+        let bases = Bases::new(alloc, circuit)?;
+        let start = settings.start.as_slice();
+        let grader = ClassGrader::new_from(alloc, circuit, faults, classes, start)?;
+        Ok(Tools {
+            grader,
+            bases,
+            first,
+        })
     }
 }
 
@@ -113,14 +175,15 @@ impl<'c> Engine<'c> {
         ensures settings { IfOk result (λ engine. engine.settings ≡ settings.now) }
         ensures live { IfOk result (λ engine. engine.live ≡ true) }
     {
-        let start = settings.start.as_slice();
-        let grader = ClassGrader::new_from(alloc, circuit, faults, classes, start)?;
-        let kinds = no_kinds(alloc, classes.len())?;
-        let bases = Bases::new(alloc, circuit)?;
-        let named = some_state(alloc, start)?;
-        let named_invariant = find(alloc, circuit, &named, settings.budget)?;
+        let named_invariant = find_named(alloc, circuit, settings)?;
         let chosen = mark_chosen(alloc, classes, settings)?;
-        let first = FirstVectors::new(alloc, circuit.inputs(), settings)?;
+        let kinds = no_kinds(alloc, classes.len())?;
+        let tools = Tools::new(alloc, circuit, faults, classes, settings)?;
+        let Tools {
+            grader,
+            bases,
+            first,
+        } = tools;
         Ok(Engine {
             alloc,
             circuit,
