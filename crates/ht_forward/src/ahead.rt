@@ -1,8 +1,13 @@
 //! The search of one window for a list of vectors.
-ghost use Rattle.std.specs.Prelude.{◌≡◌, ◌<◌, ◌≤◌, [], true, Some, IfOk};
+ghost use Rattle.std.specs.Prelude.{◌≡◌, ◌<◌, ◌≤◌, ℕ, [], true, Some, IfOk};
+ghost use Rattle.ht_tree.specs.declared.window.Spot.{Spot};
+ghost use Rattle.ht_tree.specs.declared.token.Status3.TheVariants as status3;
 ghost use Rattle.ht_tree.specs.Counts.{seeks_difference};
 ghost use Rattle.ht_tree.specs.Places.{state_places};
-ghost use Rattle.ht_tree.specs.Windows.{IsStart};
+ghost use Rattle.ht_tree.specs.Searches.{guide_of, node_at};
+ghost use Rattle.ht_tree.specs.Windows.{IsStart, token_weight};
+ghost use Rattle.ht_tree.specs.WindowStatus.{status_at, without_place};
+ghost use Rattle.ht_search.specs.Outcomes.{IsOutcome};
 ghost use Rattle.ht_window.specs.Starts.{start_of, window_from};
 ghost use Rattle.ht_forward.specs.AheadSearches.{IsAhead};
 
@@ -10,7 +15,7 @@ use ht_items::Items;
 use ht_net::{Fault, Vectors};
 use ht_search::Outcome;
 use ht_tree::{Status, Token};
-use ht_window::{Bases, MAX_FRAMES, Start, Trial, explore, list};
+use ht_window::{Bases, MAX_FRAMES, Start, Trial, Window, explore, list};
 use std::alloc::{AllocError, Global};
 
 /// What the search of a window for a difference at an output comes to.
@@ -46,20 +51,68 @@ pub fn search_ahead(
     ensures answer { IfOk result
         (IsAhead (window_from bases.old.circuit (Some fault) frames start.now) budget) }
 {
+    let mut trial = begin(alloc, bases, fault, frames, start)?;
+    let outcome = explore(alloc, &mut trial, budget, frames as u64)?;
+    let ahead = answer(alloc, &trial.window, outcome)?;
+    Ok(ahead)
+}
+
+// The window of a start before its first decision.
+fn begin<'c>(
+    alloc: Global,
+    bases: &mut Bases<'c>,
+    fault: Fault,
+    frames: u32,
+    start: &Start,
+) -> Result<Trial<'c>, AllocError>
+    requires few { frames ≤ MAX_FRAMES }
+    requires start { IsStart bases.old.circuit (Some fault) frames (start_of start.now) }
+    requires seeks { seeks_difference (start_of start.now) ≡ true }
+    ensures circuit { bases.new.circuit ≡ bases.old.circuit }
+    ensures window { IfOk result (λ trial. trial.window.window
+        ≡ window_from bases.old.circuit (Some fault) frames start.now) }
+    ensures decisions { IfOk result (λ trial. trial.window.decisions ≡ []) }
+{
     let window = bases.window(alloc, Some(fault), frames, start)?;
-    let mut trial = Trial { window };
-    match explore(alloc, &mut trial, budget, frames as u64)? {
+    Ok(Trial { window })
+}
+
+// What the outcome of a search within any budget comes to. The window stands where the search left it.
+fn answer(alloc: Global, window: &Window, outcome: Outcome) -> Result<Ahead, AllocError>
+    requires few { window.now.window.frames ≤ MAX_FRAMES }
+    requires seeks { seeks_difference window.now.window.start ≡ true }
+    requires outputs { state_places window.now.window.circuit window.now.window.start ≡ [] }
+    requires outcome { (budget : ℕ) × IsOutcome (guide_of window.now.window) budget
+        (token_weight window.now.window) (node_at window.now.decisions) outcome }
+    ensures { IfOk result (λ answer. (budget : ℕ) → IsOutcome (guide_of window.now.window) budget
+        (token_weight window.now.window) (node_at window.now.decisions) outcome
+        → IsAhead window.now.window budget answer) }
+{
+    match outcome {
         Outcome::Closed { tokens } => Ok(Ahead::Closed {
             tokens: Items::from_vec(tokens),
         }),
         Outcome::Spent { tokens } => Ok(Ahead::Spent {
             tokens: Items::from_vec(tokens),
         }),
-        Outcome::Found { tokens: _ } => match trial.window.status() {
-            Status::Sure { frame, place: _ } => Ok(Ahead::Found {
-                list: list(alloc, &trial.window, frame + 1)?,
-            }),
-            Status::Dead | Status::Open => unreachable!(),
-        },
+        Outcome::Found { tokens: _ } => Ok(Ahead::Found {
+            list: list(alloc, window, sure_frame(window) + 1)?,
+        }),
+    }
+}
+
+// The first frame in which an output differs for certain.
+fn sure_frame(window: &Window) -> u32
+    requires seeks { seeks_difference window.now.window.start ≡ true }
+    requires outputs { state_places window.now.window.circuit window.now.window.start ≡ [] }
+    requires sure { without_place (status_at window.now.window window.now.decisions)
+        ≡ status3.Sure }
+    ensures sure { (place : Spot) × (status_at window.now.window window.now.decisions
+        ≡ Status.Sure result place) }
+    ensures known { result < window.now.window.frames }
+{
+    match window.status() {
+        Status::Sure { frame, place: _ } => frame,
+        Status::Dead | Status::Open => unreachable!(),
     }
 }
