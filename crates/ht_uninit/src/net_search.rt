@@ -1,5 +1,5 @@
 //! The search for a net that isn't unknown.
-ghost use Rattle.std.specs.Prelude.{◌≡◌, ◌<◌, ℕ, [], IfOk};
+ghost use Rattle.std.specs.Prelude.{◌≡◌, ◌<◌, ℕ, [], IfOk, OnOk};
 ghost use Rattle.ht_net.specs.Netlist.{net_count};
 ghost use Rattle.ht_search.specs.Outcomes.{IsOutcome};
 ghost use Rattle.ht_search.specs.WindowSteps.{route_of, steps_under};
@@ -116,6 +116,23 @@ fn said(alloc: Global, held: &HeldWindow, outcome: Outcome) -> Result<Out3, Allo
     }
 }
 
+// Searches a problem in whose window nothing is decided, which stands then as the search left it.
+fn search_from_start(
+    alloc: Global,
+    problem: &mut NetSearch,
+    budget: u64,
+) -> Result<Out3, AllocError>
+    requires { problem.old.held.path ≡ [] }
+    ensures circuit { OnOk result (problem.new.held.circuit ≡ problem.old.held.circuit) }
+    ensures members { OnOk result (problem.new.held.members ≡ problem.old.held.members) }
+    ensures out { IfOk result (IsOutput problem.old.held.circuit budget
+        problem.old.held.members problem.old.net.0) }
+{
+    let outcome = search(alloc, problem, budget, 1)?;
+    let out = said(alloc, &problem.held, outcome)?;
+    Ok(out)
+}
+
 /// Searches for decisions under which a net isn't unknown, within a budget of which each token takes one.
 ///
 /// # Errors
@@ -135,9 +152,8 @@ pub fn search_net<'c>(
         (λ s. IsOutput held.entry.circuit budget held.entry.members net.0 s.out) }
 {
     let mut problem = NetSearch { held, net };
-    let outcome = search(alloc, &mut problem, budget, 1)?;
+    let out = search_from_start(alloc, &mut problem, budget)?;
     let NetSearch { mut held, net: _ } = problem;
-    let out = said(alloc, &held, outcome)?;
     held.undo_to(0);
     Ok(Searched { held, out })
 }

@@ -1,5 +1,5 @@
 //! Flip-flops that never get a definite value, outputs that never show one, and the faults that they hide.
-ghost use Rattle.std.specs.Prelude.{◌≡◌, ◌<◌, [], length, map, IfOk};
+ghost use Rattle.std.specs.Prelude.{◌≡◌, ◌<◌, ◌+◌, [], length, map, IfOk, OnOk};
 ghost use Rattle.std.specs.List.{All, range_with_len};
 ghost use Rattle.ht_net.specs.Netlist.{net_count};
 ghost use Rattle.ht_faults.specs.Sites.{IsFaultSite, faults_of};
@@ -18,6 +18,36 @@ use ht_faults::FaultList;
 use ht_net::{Circuit, NetId, Site};
 use std::alloc::{AllocError, Global};
 
+// Searches output o, adds what that came to after the outputs before it, and gives the window back.
+fn search_output<'c>(
+    alloc: Global,
+    circuit: &Circuit,
+    held: HeldWindow<'c>,
+    o: u32,
+    budget: u64,
+    outs: &mut Vec<Out3>,
+) -> Result<HeldWindow<'c>, AllocError>
+    requires circuit { held.circuit ≡ circuit.now }
+    requires path { held.path ≡ [] }
+    requires inside { o < length circuit.now.outputs }
+    requires long { length outs.old.items ≡ o }
+    requires outs { AreOutputs circuit.now budget held.members o outs.old.items }
+    ensures circuit { IfOk result (λ next. next.circuit ≡ circuit.now) }
+    ensures members { IfOk result (λ next. next.members ≡ held.entry.members) }
+    ensures path { IfOk result (λ next. next.path ≡ []) }
+    ensures long { OnOk result (length outs.new.items ≡ o + 1) }
+    ensures outs { OnOk result
+        (AreOutputs circuit.now budget held.entry.members (o + 1) outs.new.items) }
+{
+    // for the proof: the circuit is well formed
+    let _ = circuit.nets();
+    let net = circuit.output(o);
+    let searched = search_net(alloc, held, net, budget)?;
+    let Searched { held: next, out } = searched;
+    outs.push(out)?;
+    Ok(next)
+}
+
 // Searches each output.
 fn search_outputs<'c>(
     alloc: Global,
@@ -31,16 +61,11 @@ fn search_outputs<'c>(
     ensures outs { IfOk result (λ outs. AreOutputs circuit.now budget held.entry.members
         (length circuit.now.outputs) outs.items) }
 {
-    // for the proof: the circuit is well formed
-    let _ = circuit.nets();
     let mut window = held;
     let mut outs = Vec::new(alloc);
     for o in 0..circuit.outputs() {
-        let net = circuit.output(o);
-        let searched = search_net(alloc, window, net, budget)?;
-        let Searched { held: next, out } = searched;
+        let next = search_output(alloc, circuit, window, o, budget, &mut outs)?;
         window = next;
-        outs.push(out)?;
     }
     Ok(outs)
 }
