@@ -4,9 +4,8 @@ use Rattle.std.specs.List.{Contains}
 use Rattle.std.proofs.Math.Nat.{suc-mul, mul-le-mul_right}
 use Rattle.std.proofs.Math.ListN.{get_or-map}
 use Rattle.std.proofs.lemmas.Bool.{cases_lt, cond_below, cond_above}
-use Rattle.std.proofs.lemmas.List.{length-map, get_or_default, get_or_past, take-map, drop-map, take_all, drop_all, append-nil}
+use Rattle.std.proofs.lemmas.List.{length-map, get_or_default, take-map, drop-map, take_all, drop_all, append-nil}
 use Rattle.ht_net.specs.Netlist.{Netlist}
-use Rattle.ht_events.specs.Ranks.{AreRanked}
 use Rattle.ht_events.specs.declared.readers.NetRow.{NetRow}
 use Rattle.ht_events.specs.NetRows.{lists_of, readers_in, AreNetRows}
 use Rattle.ht_events.specs.Items.{frame_items, item_at, item_count, reader_frame}
@@ -74,17 +73,6 @@ placed_table c ranks rows placed dffs many t is =
       complete = λ x l reads. subst (λ (s : List ℕ). Contains s (f l)) (sym (get_or-map (map f) rows x []))
           (contains_mapped f (get_or rows x []) l (t.complete x l reads));
     })
-
--- no rank is above their number, also where there is none
-pub ranks_small : (c : Netlist) (sources : ℕ) (order ranks : List ℕ) → AreRanked c sources order ranks
-    → (l : ℕ) → get_or ranks l 0 ≤ length ranks
-ranks_small c sources order ranks r l = elim (cases_lt l (length ranks)) [
-  | inl known ↦
-      let long = r.rank_count in
-      let s = r.small l (omega (arith, known, long)) in
-      omega (arith, s, long)
-  | inr past ↦ let e = get_or_past ranks l 0 past in omega (arith, e)
-]
 
 -- the item of a frame that reads a net of frame f
 abbrev pub reader_at : PlanState → ℕ → ℕ → ℕ
