@@ -125,70 +125,74 @@ macro_rules! complemented_good {
 
 // The parts of the first argument, and of the second. Each half of a result of AND or OR is that half of one of the two
 // members, and the other member's may be moved to it.
-macro_rules! first_of_and {
-    ($x:tt $one:tt $zero:tt) => {
+macro_rules! first_by_move {
+    ($moved:ident $moved_good:ident $x:tt $one:tt $zero:tt) => {
         [
             set!($x, $one, $zero),
-            lowered_good!(lowered!($x), lowered!($one), lowered!($zero)),
-            set!(lowered!($x), lowered!($one), lowered!($zero)),
-            lowered_good!($x, $one, $zero),
+            $moved_good!($moved!($x), $moved!($one), $moved!($zero)),
+            set!($moved!($x), $moved!($one), $moved!($zero)),
+            $moved_good!($x, $one, $zero),
         ]
+    };
+}
+
+macro_rules! second_by_move {
+    ($moved:ident $moved_good:ident $x:tt $one:tt $zero:tt) => {
+        [
+            $moved_good!($moved!($x), $moved!($one), $moved!($zero)),
+            set!($x, $one, $zero),
+            $moved_good!($x, $one, $zero),
+            set!($moved!($x), $moved!($one), $moved!($zero)),
+        ]
+    };
+}
+
+macro_rules! first_of_and {
+    ($x:tt $one:tt $zero:tt) => {
+        first_by_move!(lowered lowered_good $x $one $zero)
     };
 }
 
 macro_rules! second_of_and {
     ($x:tt $one:tt $zero:tt) => {
-        [
-            lowered_good!(lowered!($x), lowered!($one), lowered!($zero)),
-            set!($x, $one, $zero),
-            lowered_good!($x, $one, $zero),
-            set!(lowered!($x), lowered!($one), lowered!($zero)),
-        ]
+        second_by_move!(lowered lowered_good $x $one $zero)
     };
 }
 
 macro_rules! first_of_or {
     ($x:tt $one:tt $zero:tt) => {
-        [
-            set!($x, $one, $zero),
-            raised_good!(raised!($x), raised!($one), raised!($zero)),
-            set!(raised!($x), raised!($one), raised!($zero)),
-            raised_good!($x, $one, $zero),
-        ]
+        first_by_move!(raised raised_good $x $one $zero)
     };
 }
 
 macro_rules! second_of_or {
     ($x:tt $one:tt $zero:tt) => {
+        second_by_move!(raised raised_good $x $one $zero)
+    };
+}
+
+// Where a half of the first member is 0, the second member's passes; where it is 1, the second's complement does. Each of
+// two moves of the good halves comes after each of two moves of the faulty halves.
+macro_rules! by_two_moves {
+    ($zero_moved:ident $zero_good:ident $one_moved:ident $one_good:ident $x:tt $one:tt $zero:tt) => {
         [
-            raised_good!(raised!($x), raised!($one), raised!($zero)),
-            set!($x, $one, $zero),
-            raised_good!($x, $one, $zero),
-            set!(raised!($x), raised!($one), raised!($zero)),
+            $zero_good!($zero_moved!($x), $zero_moved!($one), $zero_moved!($zero)),
+            $zero_good!($one_moved!($x), $one_moved!($one), $one_moved!($zero)),
+            $one_good!($zero_moved!($x), $zero_moved!($one), $zero_moved!($zero)),
+            $one_good!($one_moved!($x), $one_moved!($one), $one_moved!($zero)),
         ]
     };
 }
 
-// Where a half of the first member is 0, the second member's passes; where it is 1, the second's complement does.
 macro_rules! first_of_xor {
     ($x:tt $one:tt $zero:tt) => {
-        [
-            passed_good!(passed!($x), passed!($one), passed!($zero)),
-            passed_good!(flipped!($x), flipped!($one), flipped!($zero)),
-            flipped_good!(passed!($x), passed!($one), passed!($zero)),
-            flipped_good!(flipped!($x), flipped!($one), flipped!($zero)),
-        ]
+        by_two_moves!(passed passed_good flipped flipped_good $x $one $zero)
     };
 }
 
 macro_rules! second_of_xor {
     ($x:tt $one:tt $zero:tt) => {
-        [
-            blurred_good!(blurred!($x), blurred!($one), blurred!($zero)),
-            blurred_good!(complemented!($x), complemented!($one), complemented!($zero)),
-            complemented_good!(blurred!($x), blurred!($one), blurred!($zero)),
-            complemented_good!(complemented!($x), complemented!($one), complemented!($zero)),
-        ]
+        by_two_moves!(blurred blurred_good complemented complemented_good $x $one $zero)
     };
 }
 
