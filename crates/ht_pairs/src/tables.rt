@@ -171,8 +171,8 @@ macro_rules! second_of_or {
     };
 }
 
-// Where a half of the first member is 0, the second member's passes; where it is 1, the second's complement does. Each of
-// two moves of the good halves comes after each of two moves of the faulty halves.
+// Where a half of the first member is 0, the second member's passes; where it is 1, the second's complement does. Each
+// of two moves of the good halves comes after each of two moves of the faulty halves.
 macro_rules! by_two_moves {
     ($zero_moved:ident $zero_good:ident $one_moved:ident $one_good:ident $x:tt $one:tt $zero:tt) => {
         [
