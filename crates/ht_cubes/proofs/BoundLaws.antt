@@ -1,7 +1,7 @@
 -- The variables of the formula are below a number.
 use Rattle.std.proofs.Common.{◌<◌, ◌≤◌, ◌+◌, ◌*◌, ℕ, suc, List, [], ◌∷◌, ◌++◌, map, Bool, true, false, not, length, get_or, arith}
 use Rattle.std.specs.Prelude.{nat_le, ◌&&◌}
-use Rattle.std.specs.List.{All, filter, flat_map, list_any, range_with_len}
+use Rattle.std.specs.List.{All, filter, flat_map, list_any}
 use Rattle.std.proofs.lemmas.Bool.{cond_both}
 use Rattle.std.proofs.lemmas.List.Elements.{All-nil, All-cons, All-append, All-map, All-filter}
 use Rattle.ht_tern.specs.declared.gate.Kind.{Kind}
@@ -17,9 +17,9 @@ use Rattle.ht_cubes.specs.declared.rail.Rail.{Rail}
 use Rattle.ht_cubes.specs.declared.signed_var.SignedVar.{SignedVar}
 use Rattle.ht_cubes.specs.declared.signal.Signal.{Signal}
 use Rattle.ht_cubes.specs.Rails.{stuck_line, IsKnownRail}
-use Rattle.ht_cubes.specs.Formula.{complement, rail_variable, rail_of, stuck_signal, turned, driver_signal, signal_rules, net_signal, pin_signals, latch_signal, next_signal, needs, positive, either_clauses, single_clauses, controlled_clauses, choices, parity_of, excluded, max_parity_pins, exclusions, parity_clauses, kind_clauses, uninverted, gate_clauses, input_clauses, latch_clauses, machine_clauses, is_doubled, both_clauses, frame_clauses, cube_clause, next_target, differs_target, output_targets, is_constant, may_come, all_targets, targets_of, target_clauses, some_target, without_constants, first_target, clauses_of, formula_of, last_variable}
+use Rattle.ht_cubes.specs.Formula.{complement, rail_variable, rail_of, stuck_signal, turned, driver_signal, signal_rules, net_signal, pin_signals, latch_signal, next_signal, needs, positive, either_clauses, single_clauses, controlled_clauses, choices, parity_of, excluded, max_parity_pins, exclusions, parity_clauses, kind_clauses, uninverted, gate_clauses, machine_clauses, frame_clauses, cube_clause, next_target, differs_target, output_targets, is_constant, may_come, all_targets, targets_of, target_clauses, some_target, without_constants, first_target, clauses_of, formula_of, last_variable}
 use Rattle.ht_cubes.specs.Values.{IsBelow}
-use Rattle.ht_cubes.proofs.FrameLaws.{flat_true}
+use Rattle.ht_cubes.proofs.FrameLaws.{frame_all}
 
 module _ (n : ℕ) where
   -- the variables of a signal are below n
@@ -178,25 +178,8 @@ module _ (c : Netlist) (circuit : IsCircuit c) (fault : Fault) (cone : ℕ → B
       (λ j l. net_under faulty _ (circuit.known g j h l)))
 
   frame_below : All (IsBelow n) (frame_clauses c fault cone)
-  frame_below =
-      All-append (IsBelow n)
-      (flat_map (input_clauses c cone) (range_with_len 0 c.inputs)
-      ++ flat_map (latch_clauses c cone) (range_with_len 0 (length c.dffs)))
-      (flat_map (both_clauses c fault cone) (range_with_len 0 (length c.gates)))
-      (All-append (IsBelow n) (flat_map (input_clauses c cone) (range_with_len 0 c.inputs))
-      (flat_map (latch_clauses c cone) (range_with_len 0 (length c.dffs)))
-      (flat_true (IsBelow n) (input_clauses c cone) 0 c.inputs
-      (λ x l. either_under n (driver_signal c cone false x) (driver_under false x (omega arith))))
-      (flat_true (IsBelow n) (latch_clauses c cone) 0 (length c.dffs)
-      (λ j l. All-append (IsBelow n) (either_clauses (latch_signal c cone false j)) _
-      (either_under n (latch_signal c cone false j) (driver_under false (c.inputs + j) (omega arith)))
-      (cond_both (cone (c.inputs + j)) (either_clauses (latch_signal c cone true j)) [] (All (IsBelow n))
-      (λ yes. either_under n (latch_signal c cone true j) (driver_under true (c.inputs + j) (omega arith)))
-      (λ wrong. All-nil (IsBelow n))))))
-      (flat_true (IsBelow n) (both_clauses c fault cone) 0 (length c.gates)
-      (λ g l. All-append (IsBelow n) (machine_clauses c fault cone false g) _ (machine_under false g (omega arith))
-      (cond_both (is_doubled c fault cone g) (machine_clauses c fault cone true g) [] (All (IsBelow n))
-      (λ yes. machine_under true g (omega arith)) (λ wrong. All-nil (IsBelow n)))))
+  frame_below = frame_all c fault cone (IsBelow n)
+      (λ faulty x h. either_under n (driver_signal c cone faulty x) (driver_under faulty x h)) machine_under
 
   cube_below : (cube : List Rail) → All (IsKnownRail c cone) cube → IsBelow n (cube_clause c cone cube)
   cube_below cube known = All-map (λ (m : SignedVar). m.variable < n)

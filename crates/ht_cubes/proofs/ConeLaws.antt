@@ -1,6 +1,6 @@
 -- Marks that grow to the cone.
-use Rattle.std.proofs.Common.{◌≡◌, ◌<◌, ◌≤◌, ◌+◌, ℕ, suc, zero, List, [], ◌∷◌, length, get_or, set, replicate, Bool, true, false, refl, sym, ◌∙◌, ap, subst, arith, inl, inr, ◌⊎◌}
-use Rattle.std.proofs.lemmas.List.{get_or-set_same, get_or-set_other, length-set, length-replicate}
+use Rattle.std.proofs.Common.{◌≡◌, ◌<◌, ◌≤◌, ◌+◌, ℕ, suc, zero, List, [], ◌∷◌, length, get_or, set, Bool, true, false, refl, sym, ◌∙◌, ap, subst, arith, inl, inr, ◌⊎◌, below_more}
+use Rattle.std.proofs.lemmas.List.{get_or-set_same, get_or-set_other, length-set}
 use Rattle.std.proofs.lemmas.Bool.{both_ways, cases_Bool, cases_eq, false≢true}
 use Rattle.ht_net.specs.declared.fault.Fault.{Fault}
 use Rattle.ht_net.specs.Netlist.{Netlist, first_gate_net, net_count, gate_at, arg_at, no_net}
@@ -97,28 +97,6 @@ module _ (c : Netlist) where
   dff_apart marks j y taken off m =
       absurd (both_ways (get_or marks y false) off (ap (λ (n : ℕ). get_or marks n false) taken ∙ m))
 
-  -- the first mark, where there is such a net, and where there is none
-  none_marked : (n x : ℕ) → get_or (replicate n false) x false ≡ true → ⊥
-  none_marked zero x h = false≢true h
-  none_marked (suc n) zero h = false≢true h
-  none_marked (suc n) (suc x) h = none_marked n x h
-
-  pub none_reached : (fault : Fault) (n : ℕ) → AreReached c fault (replicate n false)
-  none_reached fault n nets closed x m = absurd (none_marked n x m)
-
-  pub first_reached : (fault : Fault) (n x : ℕ) → x ≡ first_changed c fault.site → x < net_count c
-      → AreReached c fault (set (replicate n false) x true)
-  first_reached fault n x is inside nets closed y m = elim (from_set (replicate n false) x y m) [
-    | inl same ↦ ap nets (same ∙ is) ∙ closed.first (let l : first_changed c fault.site < net_count c = omega arith in l)
-    | inr old ↦ absurd (none_marked n y old)
-  ]
-
-  pub first_marked : (n x y : ℕ) → x < n → x ≡ y → marked (set (replicate n false) x true) y ≡ true
-  first_marked n x y inside is =
-      let e = length-replicate n false in
-      ap (λ (k : ℕ). get_or (set (replicate n false) x true) k false) (sym is)
-      ∙ get_or-set_same (replicate n false) x true false (omega (arith, e, inside))
-
 -- what a sweep closes, said otherwise
 pub swept_so : (P Q : Type 0) → (P → Q) → (a b : List Bool) (x : Bool) → IsSwept P a b x → IsSwept Q a b x
 swept_so P Q so a b x h = record { fewer = h.fewer; still = h.still; closed = λ wrong. so (h.closed wrong) }
@@ -141,6 +119,25 @@ swept_join P Q R join a b d x y z few less one two right wrong = record {
 
     x_off : z ≡ false → x ≡ false
     x_off not = sym (wrong (off not)) ∙ not
+
+-- Whether some mark is new, with one answer more.
+abbrev Joins : Bool → Bool → Bool → Type 0
+Joins before one now = (one ≡ true → now ≡ true) × (one ≡ false → now ≡ before)
+
+pub joins_new : (before : Bool) {one now : Bool} → one ≡ true → now ≡ true → Joins before one now
+joins_new before {one} on is = ((λ yes. is), (λ wrong. absurd (both_ways one wrong on)))
+
+pub joins_old : {before one now : Bool} → one ≡ false → now ≡ before → Joins before one now
+joins_old {before} {one} off is = ((λ yes. absurd (both_ways one off yes)), (λ no. is))
+
+-- one item more of a sweep
+pub swept_more : (P : ℕ → List Bool → Type 0) (i : ℕ) {a b d : List Bool} {x y z : Bool}
+    → unmarked_count b ≤ unmarked_count a → unmarked_count d ≤ unmarked_count b
+    → IsSwept ((k : ℕ) → k < i → P k b) a b x → IsSwept (P i d) b d y → Joins x y z
+    → IsSwept ((k : ℕ) → k < i + 1 → P k d) a d z
+swept_more P i {a} {b} {d} {x} {y} {z} few less one two joins =
+    swept_join (λ (m : List Bool). (k : ℕ) → k < i → P k m) (P i) (λ (m : List Bool). (k : ℕ) → k < i + 1 → P k m)
+    (λ m below here. below_more (λ (k : ℕ). P k m) i below here) a b d x y z few less one two joins.0 joins.1
 
 -- marks that are reached, have the first net and close are the cone
 pub cone_found : (c : Netlist) (fault : Fault) (marks : List Bool)

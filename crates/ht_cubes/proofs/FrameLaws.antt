@@ -119,6 +119,33 @@ flat_true P f a zero h = All-nil P
 flat_true P f a (suc n) h = All-append P (f a) (flat_map f (range_with_len (a + 1) n)) (h a (omega arith))
     (flat_true P f (a + 1) n (λ x l. h x (omega arith)))
 
+-- what holds of the clauses of each driver and of each gate holds of those of a frame
+module _ (c : Netlist) (fault : Fault) (cone : ℕ → Bool) (P : List SignedVar → Type 0)
+    (either : (faulty : Bool) (x : ℕ) → x < net_count c → All P (either_clauses (driver_signal c cone faulty x)))
+    (machine : (faulty : Bool) (g : ℕ) → g < length c.gates → All P (machine_clauses c fault cone faulty g)) where
+  latches_all : (j : ℕ) → j < length c.dffs → All P (latch_clauses c cone j)
+  latches_all j inside = All-append P (either_clauses (latch_signal c cone false j)) _
+      (either false (c.inputs + j) (omega arith))
+      (cond_both (cone (c.inputs + j)) (either_clauses (latch_signal c cone true j)) [] (All P)
+      (λ yes. either true (c.inputs + j) (omega arith)) (λ no. All-nil P))
+
+  gates_all : (g : ℕ) → g < length c.gates → All P (both_clauses c fault cone g)
+  gates_all g inside = All-append P (machine_clauses c fault cone false g) _ (machine false g inside)
+      (cond_both (is_doubled c fault cone g) (machine_clauses c fault cone true g) [] (All P)
+      (λ yes. machine true g inside) (λ no. All-nil P))
+
+  pub frame_all : All P (frame_clauses c fault cone)
+  frame_all =
+      All-append P
+      (flat_map (input_clauses c cone) (range_with_len 0 c.inputs)
+      ++ flat_map (latch_clauses c cone) (range_with_len 0 (length c.dffs)))
+      (flat_map (both_clauses c fault cone) (range_with_len 0 (length c.gates)))
+      (All-append P (flat_map (input_clauses c cone) (range_with_len 0 c.inputs))
+      (flat_map (latch_clauses c cone) (range_with_len 0 (length c.dffs)))
+      (flat_true P (input_clauses c cone) 0 c.inputs (λ x l. either false x (omega arith)))
+      (flat_true P (latch_clauses c cone) 0 (length c.dffs) (λ j l. latches_all j (omega arith))))
+      (flat_true P (both_clauses c fault cone) 0 (length c.gates) (λ g l. gates_all g (omega arith)))
+
 module _ (values : ℕ → Bool) (f : Rail → SignedVar) where
   -- a clause that denies rails fails only where all of them are true
   denied_all : (cube : List Rail) → list_any (truth_of values) (map (λ (r : Rail). complement (f r)) cube) ≡ false
@@ -227,36 +254,13 @@ module _ (c : Netlist) (circuit : IsCircuit c) (fault : Fault) (cone : ℕ → B
         (λ bit. tells_driver faulty (first_gate_net c + g) (omega arith) bit
         ∙ ap (is_definitely bit) (gate_driven faulty g))
 
-    both_true : (g : ℕ) → g < length c.gates → AreTrueClauses values (both_clauses c fault cone g)
-    both_true g inside = All-append (IsTrueClause values) (machine_clauses c fault cone false g) _
-        (machine_true false g inside)
-        (cond_both (is_doubled c fault cone g) (machine_clauses c fault cone true g) [] (AreTrueClauses values)
-        (λ yes. machine_true true g inside) (λ no. All-nil (IsTrueClause values)))
-
     either_of : (faulty : Bool) (x : ℕ) → x < net_count c
         → AreTrueClauses values (either_clauses (driver_signal c cone faulty x))
     either_of faulty x inside =
         either_true values (driver_signal c cone faulty x) (driven faulty x) (tells_driver faulty x inside)
 
-    latch_both_true : (j : ℕ) → j < length c.dffs → AreTrueClauses values (latch_clauses c cone j)
-    latch_both_true j inside = All-append (IsTrueClause values) (either_clauses (latch_signal c cone false j)) _
-        (either_of false (c.inputs + j) (omega arith))
-        (cond_both (cone (c.inputs + j)) (either_clauses (latch_signal c cone true j)) [] (AreTrueClauses values)
-        (λ yes. either_of true (c.inputs + j) (omega arith)) (λ no. All-nil (IsTrueClause values)))
-
     pub frame_true : AreTrueClauses values (frame_clauses c fault cone)
-    frame_true =
-        All-append (IsTrueClause values)
-        (flat_map (input_clauses c cone) (range_with_len 0 c.inputs)
-        ++ flat_map (latch_clauses c cone) (range_with_len 0 (length c.dffs)))
-        (flat_map (both_clauses c fault cone) (range_with_len 0 (length c.gates)))
-        (All-append (IsTrueClause values) (flat_map (input_clauses c cone) (range_with_len 0 c.inputs))
-        (flat_map (latch_clauses c cone) (range_with_len 0 (length c.dffs)))
-        (flat_true (IsTrueClause values) (input_clauses c cone) 0 c.inputs (λ x l. either_of false x (omega arith)))
-        (flat_true (IsTrueClause values) (latch_clauses c cone) 0 (length c.dffs)
-        (λ j l. latch_both_true j (omega arith))))
-        (flat_true (IsTrueClause values) (both_clauses c fault cone) 0 (length c.gates)
-        (λ g l. both_true g (omega arith)))
+    frame_true = frame_all c fault cone (IsTrueClause values) either_of machine_true
 
     -- what a latch holds
     tells_latch : (faulty : Bool) (j : ℕ) → j < length c.dffs

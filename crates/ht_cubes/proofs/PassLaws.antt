@@ -20,8 +20,8 @@ use Rattle.ht_cubes.proofs.ConeLaws.{cones_agree}
 use Rattle.ht_cubes.proofs.RunLaws.{refuted_undetectable}
 use Rattle.ht_cubes.proofs.RefuteLaws.{cubes_refute}
 
-module _ (c : Netlist) (fault : Fault) (start : List Tern) (cubes : List (List Rail)) (steps : List ClauseStep)
-    (cone : ℕ → Bool) (is_cone : IsCone c fault cone) (h : RefutesByCubes c fault start cubes steps) where
+module _ {c : Netlist} {fault : Fault} {start : List Tern} {cubes : List (List Rail)} {steps : List ClauseStep}
+    {cone : ℕ → Bool} (is_cone : IsCone c fault cone) (h : RefutesByCubes c fault start cubes steps) where
   -- the cone of a refutation that passes is this one
   pub cone_is : h.cone ≡ cone
   cone_is = cones_agree c fault h.cone cone h.is_cone is_cone
@@ -47,36 +47,38 @@ passing_excludes c fault start cubes steps circuit is h =
     refuted_undetectable c fault start cubes circuit is (cubes_refute c circuit fault start cubes steps h)
 
 -- clauses and a last variable that are those of the formula
-module _ (c : Netlist) (fault : Fault) (start : List Tern) (cubes : List (List Rail)) (steps : List ClauseStep)
-    (cone : ℕ → Bool) (clauses : List (List SignedVar)) (last : ℕ) (is : clauses ≡ formula_of c fault cone cubes)
-    (top : last ≡ last_variable c fault cone cubes) where
+module _ (c : Netlist) (fault : Fault) (cubes : List (List Rail)) (cone : ℕ → Bool) {clauses : List (List SignedVar)}
+    {last : ℕ} (is : clauses ≡ formula_of c fault cone cubes) (top : last ≡ last_variable c fault cone cubes) where
   pub clauses_below : IsCircuit c → All (All (IsKnownRail c cone)) cubes → All (IsBelow (last + 1)) clauses
   clauses_below circuit known =
       let P : List (List SignedVar) → Type 0 = λ l. All (IsBelow (last + 1)) l in
       let Q : ℕ → Type 0 = λ n. All (IsBelow (n + 1)) (formula_of c fault cone cubes) in
       subst P (sym is) (subst Q (sym top) (formula_below c circuit fault cone cubes known))
 
-  pub within_last : IsCone c fault cone → RefutesByCubes c fault start cubes steps
-      → All (λ (s : ClauseStep). IsWithin last s.literals) steps
-  within_last is_cone h =
+  pub within_last : IsCone c fault cone → {start : List Tern} {steps : List ClauseStep}
+      → RefutesByCubes c fault start cubes steps → All (λ (s : ClauseStep). IsWithin last s.literals) steps
+  within_last is_cone {start} {steps} h =
       let P : ℕ → Type 0 = λ n. All (λ (s : ClauseStep). IsWithin n s.literals) steps in
-      subst P (sym top) (within_here c fault start cubes steps cone is_cone h)
+      subst P (sym top) (within_here is_cone h)
 
-  -- what is checked is what passes
-  pub refutes_exactly : IsCone c fault cone → All (All (IsKnownRail c cone)) cubes → AvoidsAll (both start) cubes
-      → EndsEmpty steps → All (λ (s : ClauseStep). IsWithin last s.literals) steps → (passes : Bool)
-      → IsTrue passes ↔ StepsPass clauses steps → IsTrue passes ↔ RefutesByCubes c fault start cubes steps
-  refutes_exactly is_cone known starts ends within passes exact =
-      let P : ℕ → Type 0 = λ n. All (λ (s : ClauseStep). IsWithin n s.literals) steps in
-      let Q : List (List SignedVar) → Type 0 = λ l. StepsPass l steps in (
-        λ so. record {
-          cone = cone;
-          is_cone = is_cone;
-          known = known;
-          starts = starts;
-          within = subst P top within;
-          passes = subst Q is (exact.0 so);
-          ends = ends;
-        },
-        λ h. exact.1 (subst Q (sym is) (passes_here c fault start cubes steps cone is_cone h)),
-      )
+-- what is checked is what passes
+pub refutes_exactly : (c : Netlist) (fault : Fault) (start : List Tern) (cubes : List (List Rail))
+    (steps : List ClauseStep) {cone : ℕ → Bool} {clauses : List (List SignedVar)} {last : ℕ}
+    → clauses ≡ formula_of c fault cone cubes → last ≡ last_variable c fault cone cubes → IsCone c fault cone
+    → All (All (IsKnownRail c cone)) cubes → AvoidsAll (both start) cubes → EndsEmpty steps
+    → All (λ (s : ClauseStep). IsWithin last s.literals) steps → (passes : Bool)
+    → IsTrue passes ↔ StepsPass clauses steps → IsTrue passes ↔ RefutesByCubes c fault start cubes steps
+refutes_exactly c fault start cubes steps {cone} is top is_cone known starts ends within passes exact =
+    let P : ℕ → Type 0 = λ n. All (λ (s : ClauseStep). IsWithin n s.literals) steps in
+    let Q : List (List SignedVar) → Type 0 = λ l. StepsPass l steps in (
+      λ so. record {
+        cone = cone;
+        is_cone = is_cone;
+        known = known;
+        starts = starts;
+        within = subst P top within;
+        passes = subst Q is (exact.0 so);
+        ends = ends;
+      },
+      λ h. exact.1 (subst Q (sym is) (passes_here is_cone h)),
+    )

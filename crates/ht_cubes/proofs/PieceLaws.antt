@@ -5,12 +5,11 @@ use Rattle.std.proofs.lemmas.List.{append-nil, take_more, map-append, length-tak
 use Rattle.std.proofs.lemmas.List.Concat.{flat_map-append}
 use Rattle.std.proofs.lemmas.List.Elements.{filter-append, filter_more}
 use Rattle.std.proofs.lemmas.List.Folds.{list_any_at, list_any_more}
-use Rattle.std.proofs.lemmas.List.{drop_all, take_all}
+use Rattle.std.proofs.lemmas.List.{drop_all}
 use Rattle.std.proofs.lemmas.Bool.{cond-true, cond-false}
 use Rattle.ht_tern.specs.Gate.{bool_xor}
 use Rattle.ht_cubes.specs.declared.signed_var.SignedVar.{SignedVar}
-use Rattle.ht_cubes.specs.declared.signal.Signal.{Signal}
-use Rattle.ht_cubes.specs.Formula.{choices, parity_of, excluded, positive, complement, rail_of, needs, target_clauses, some_target, is_constant, may_come, without_constants}
+use Rattle.ht_cubes.specs.Formula.{choices, parity_of, positive, needs, target_clauses, some_target, is_constant, may_come, without_constants}
 use Rattle.ht_cubes.proofs.ListLaws.{drop_next}
 
 pub choices_next : (n : ℕ) → choices (n + 1)
@@ -62,19 +61,6 @@ pub parity_end : (bit : Bool) (bits : List Bool) (i : ℕ) (other : Bool) → le
 parity_end bit bits i other past so =
     xor_false other ∙ (ap (λ (l : List Bool). bool_xor other (parity_of l)) (sym (drop_all i bits past)) ∙ so)
 
--- a choice of bits excludes one pin more
-pub excluded_on : (pins : List Signal) (bits : List Bool) (i : ℕ) (d : Signal) (front new all : List SignedVar)
-    → i < length pins → length bits ≡ length pins → front ++ excluded (drop i pins) (drop i bits) ≡ all
-    → new ≡ front ++ complement (rail_of (get_or pins i d) (get_or bits i false)) ∷ []
-    → new ++ excluded (drop (i + 1) pins) (drop (i + 1) bits) ≡ all
-excluded_on pins bits i d front new all inside long so is =
-    let within : i < length bits = omega (arith, inside, long) in
-    let l = complement (rail_of (get_or pins i d) (get_or bits i false)) in
-    let rest = excluded (drop (i + 1) pins) (drop (i + 1) bits) in
-    ap (λ (x : List SignedVar). x ++ rest) is
-    ∙ (append_assoc front (l ∷ []) rest
-    ∙ ((λ k. front ++ excluded (sym (drop_next pins i d inside) k) (sym (drop_next bits i false within) k)) ∙ so))
-
 -- one more of a list that is kept by a test, and one that isn't
 module _ {X Y : Type 0} (p : X → Bool) (f : X → Y) (xs : List X) (i : ℕ) (d : X) (inside : i < length xs) where
   pub kept_more : p (get_or xs i d) ≡ true
@@ -114,17 +100,6 @@ plain_none clause i d rows inside on =
     (cond-true (list_any (is_constant true) clause) [] (filter (λ l. not (is_constant false l)) clause ∷ [])
     (list_any_at (is_constant true) clause i d inside on)) ∙ append-nil rows)
 
-pub plain_some : (clause : List SignedVar) (i : ℕ) (plain : List SignedVar) (rows new : List (List SignedVar))
-    → length clause ≤ i → list_any (is_constant true) (take i clause) ≡ false
-    → plain ≡ filter (λ l. not (is_constant false l)) (take i clause) → new ≡ rows ++ plain ∷ []
-    → new ≡ rows ++ without_constants clause
-plain_some clause i plain rows new past none so is =
-    let all = take_all i clause past in
-    is ∙ ap (λ (l : List (List SignedVar)). rows ++ l)
-    (ap (λ (l : List SignedVar). l ∷ []) (so ∙ ap (filter (λ l. not (is_constant false l))) all)
-    ∙ sym (cond-false (list_any (is_constant true) clause) [] (filter (λ l. not (is_constant false l)) clause ∷ [])
-    (ap (list_any (is_constant true)) (sym all) ∙ none)))
-
 -- what isn't the constant false is kept, one more
 kept_by : (clause : List SignedVar) (i : ℕ) (d : SignedVar) (plain new more : List SignedVar) → i < length clause
     → plain ≡ filter (λ l. not (is_constant false l)) (take i clause)
@@ -153,13 +128,6 @@ target_none target i d rows inside on =
     sym (ap (λ (l : List (List SignedVar)). rows ++ l)
     (cond-false (may_come target) (target ∷ []) []
     (ap not (list_any_at (is_constant false) target i d inside on))) ∙ append-nil rows)
-
-pub target_some : (target : List SignedVar) (i : ℕ) (rows new : List (List SignedVar)) → length target ≤ i
-    → list_any (is_constant false) (take i target) ≡ false → new ≡ rows ++ target ∷ []
-    → new ≡ rows ++ filter may_come (target ∷ [])
-target_some target i rows new past none is =
-    is ∙ ap (λ (l : List (List SignedVar)). rows ++ l) (sym (cond-true (may_come target) (target ∷ []) []
-    (ap not (ap (list_any (is_constant false)) (sym (take_all i target past)) ∙ none))))
 
 -- one more target
 pub target_more : (first : ℕ) (targets : List (List SignedVar)) (target : List SignedVar)

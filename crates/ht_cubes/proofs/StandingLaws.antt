@@ -4,7 +4,7 @@ use mathlib.Core.Bool.{beq, ◌&&◌}
 use lib.Dec.{eqb}
 use Rattle.std.proofs.lemmas.Bool.{and_parts, and_from, not-false, eqb-true, eq-eqb, true≢false}
 use Rattle.std.specs.List.{Contains}
-use Rattle.std.proofs.lemmas.List.{take_more, take_all}
+use Rattle.std.proofs.lemmas.List.{take_more}
 use Rattle.std.proofs.lemmas.List.Elements.{All-nil, All-push, All-weaker, Contains-append_left, Contains-push, Contains-get_or}
 use Rattle.ht_cubes.specs.declared.signed_var.SignedVar.{SignedVar}
 use Rattle.ht_cubes.specs.Values.{IsFalseIn, IsOpen, StandsSo}
@@ -93,11 +93,6 @@ module _ (values : List (Option Bool)) (clause : List SignedVar) (i : ℕ) (d : 
       let P : Option SignedVar → Type 0 = λ l. StandsSo values (take (i + 1) clause) l in
       subst P (sym is) (one_more (Some m)
       (same_push values (take i clause) (get_or clause i d) m (subst Q one so) same))
-
-pub stands_all : (values : List (Option Bool)) (clause : List SignedVar) (i : ℕ) (left : Option SignedVar)
-    → i ≡ length clause → StandsSo values (take i clause) left → StandsSo values clause left
-stands_all values clause i left at so = let P : List SignedVar → Type 0 = λ front. StandsSo values front left in
-    subst P (take_all i clause (omega arith)) so
 
 -- ---- clauses that are open
 

@@ -1,14 +1,8 @@
--- Targets of cubes and outputs, one by one.
-use Rattle.std.proofs.Common.{◌≡◌, ◌<◌, ◌≤◌, ◌+◌, ℕ, List, [], ◌∷◌, ◌++◌, map, length, get_or, take, Bool, true, false, sym, ◌∙◌, ap, subst, append_assoc}
+-- Rows that a test may leave out, one by one.
+use Rattle.std.proofs.Common.{◌≡◌, ◌<◌, ◌≤◌, ◌+◌, ℕ, List, [], ◌∷◌, ◌++◌, map, length, get_or, take, Bool, sym, ◌∙◌, ap, subst}
 use Rattle.std.specs.List.{All, filter, flat_map}
-use Rattle.std.proofs.lemmas.Bool.{cond-true, cond-false}
-use Rattle.std.proofs.lemmas.List.{append-nil, take_more, take_all, map-append, get_or_read}
+use Rattle.std.proofs.lemmas.List.{take_more, take_all, map-append, get_or_read}
 use Rattle.std.proofs.lemmas.List.Elements.{filter-append}
-use Rattle.ht_net.specs.declared.net.NetId.{NetId}
-use Rattle.ht_net.specs.declared.fault.Fault.{Fault}
-use Rattle.ht_net.specs.Netlist.{Netlist}
-use Rattle.ht_cubes.specs.declared.signed_var.SignedVar.{SignedVar}
-use Rattle.ht_cubes.specs.Formula.{differs_target, output_targets, may_come}
 
 -- a row that is read from a list of lists: as an item, and then as a slice
 pub read_row : {X : Type 0} (xs : List (List X)) (i : ℕ) (item row : List X) → i < length xs → item ≡ get_or xs i item
@@ -40,25 +34,3 @@ filtered_all {X} {Y} {Z} p f g xs zs i o rows new past end so is =
     (so ∙ ap (λ (l : List X). filter p (map f l)) (take_all i xs past))
     ∙ (ap (λ (l : List Z). filter p (map f xs) ++ filter p (flat_map g l)) (take_all o zs end)
     ∙ sym (filter-append p (map f xs) (flat_map g zs))))
-
-module _ (c : Netlist) (fault : Fault) (cone : ℕ → Bool) (net : NetId) where
-  -- an output in the cone
-  pub output_inside : (rows one two : List (List SignedVar)) (a b : List SignedVar) → cone net.0 ≡ true
-      → a ≡ differs_target c fault cone net.0 false → b ≡ differs_target c fault cone net.0 true
-      → one ≡ rows ++ filter may_come (a ∷ []) → two ≡ one ++ filter may_come (b ∷ [])
-      → two ≡ rows ++ filter may_come (output_targets c fault cone net)
-  output_inside rows one two a b inside low high first second =
-      second ∙ (ap (λ (l : List (List SignedVar)). l ++ filter may_come (b ∷ [])) first
-      ∙ (append_assoc rows (filter may_come (a ∷ [])) (filter may_come (b ∷ []))
-      ∙ ap (λ (l : List (List SignedVar)). rows ++ l)
-      (sym (filter-append may_come (a ∷ []) (b ∷ []))
-      ∙ ap (filter may_come) ((λ k. low k ∷ high k ∷ [])
-      ∙ sym (cond-true (cone net.0)
-      (differs_target c fault cone net.0 false ∷ differs_target c fault cone net.0 true ∷ []) [] inside)))))
-
-  -- an output outside it
-  pub output_outside : (rows : List (List SignedVar)) → cone net.0 ≡ false
-      → rows ≡ rows ++ filter may_come (output_targets c fault cone net)
-  output_outside rows out = sym (ap (λ (l : List (List SignedVar)). rows ++ filter may_come l)
-      (cond-false (cone net.0) (differs_target c fault cone net.0 false ∷ differs_target c fault cone net.0 true ∷ []) [] out)
-      ∙ append-nil rows)

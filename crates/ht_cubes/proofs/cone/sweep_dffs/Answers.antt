@@ -1,7 +1,6 @@
-use Rattle.std.proofs.Common.{arith, ◌+◌, ◌<◌, ℕ, List, Bool, ◌∙◌, below_more}
-use Rattle.std.proofs.lemmas.Bool.{both_ways}
+use Rattle.std.proofs.Common.{arith, ◌∙◌}
 use Rattle.ht_cubes.specs.Cones.{ClosesDff}
-use Rattle.ht_cubes.proofs.ConeLaws.{grown_now, grown_more, swept_none, swept_so, swept_join}
+use Rattle.ht_cubes.proofs.ConeLaws.{grown_now, grown_more, joins_new, joins_old, swept_more, swept_none, swept_so}
 use Rattle.ht_cubes.proofs.cone.sweep_dffs.Goals as goal
 use Rattle.ht_cubes.proofs.cone.sweep_dffs.Goals.{then-is_new, else-is_new}
 
@@ -20,25 +19,14 @@ mark_dff-is_new-requires-clause-marks c = c.loop-j.invariant.grown.long ∙ c.re
 pub loop-j-preserved : goal.loop-j-preserved
 loop-j-preserved c =
     let n = c.args.circuit.now in
-    let marks = c.loop-j.marks in
-    let i = c.loop-j.j in
-    let new = c.mark_dff-is_new.new.marks in
+    let so_far = c.loop-j.invariant in
+    let marked = c.mark_dff-is_new.ensures in
     record {
-      grown = grown_more n c.args.marks.now marks new c.loop-j.invariant.grown c.mark_dff-is_new.ensures.grown;
-      swept = swept_join (λ (m : List Bool). (k : ℕ) → k < i → ClosesDff n k m)
-          (λ (m : List Bool). ClosesDff n i m)
-          (λ (m : List Bool). (k : ℕ) → k < i + 1 → ClosesDff n k m)
-          (λ m below here. below_more (λ (k : ℕ). ClosesDff n k m) i below here)
-          c.args.marks.now marks new c.loop-j.changed c.mark_dff-is_new.result c.if-is_new.changed
-          c.loop-j.invariant.grown.count c.mark_dff-is_new.ensures.grown.count c.loop-j.invariant.swept
-          c.mark_dff-is_new.ensures.swept
-          (λ yes. elim c.if-is_new.branch [
-            | then-is_new w ↦ w.changed-is
-            | else-is_new w ↦ absurd (both_ways c.mark_dff-is_new.result w.if-is_new.false yes)
-          ])
-          (λ wrong. elim c.if-is_new.branch [
-            | then-is_new w ↦ absurd (both_ways c.mark_dff-is_new.result wrong w.if-is_new.true)
-            | else-is_new w ↦ w.changed-is
+      grown = grown_more n c.args.marks.now c.loop-j.marks c.mark_dff-is_new.new.marks so_far.grown marked.grown;
+      swept = swept_more (ClosesDff n) c.loop-j.j
+          so_far.grown.count marked.grown.count so_far.swept marked.swept (elim c.if-is_new.branch [
+            | then-is_new w ↦ joins_new c.loop-j.changed w.if-is_new.true w.changed-is
+            | else-is_new w ↦ joins_old w.if-is_new.false w.changed-is
           ]);
     }
 

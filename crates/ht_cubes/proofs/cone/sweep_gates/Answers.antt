@@ -1,7 +1,6 @@
-use Rattle.std.proofs.Common.{arith, ◌+◌, ◌<◌, ℕ, List, Bool, get_or, ◌∙◌, subst, below_more}
-use Rattle.std.proofs.lemmas.Bool.{both_ways}
+use Rattle.std.proofs.Common.{arith, ℕ, List, Bool, get_or, ◌∙◌, subst}
 use Rattle.ht_cubes.specs.Cones.{ClosesGate}
-use Rattle.ht_cubes.proofs.ConeLaws.{grown_now, grown_more, swept_none, swept_so, swept_join}
+use Rattle.ht_cubes.proofs.ConeLaws.{grown_now, grown_more, joins_new, joins_old, swept_more, swept_none, swept_so}
 use Rattle.ht_cubes.proofs.cone.sweep_gates.Goals as goal
 use Rattle.ht_cubes.proofs.cone.sweep_gates.Goals.{then-is_new, else-is_new}
 
@@ -20,25 +19,15 @@ mark_gate-is_new-requires-clause-marks c = c.loop-g.invariant.grown.long ∙ c.r
 pub loop-g-preserved : goal.loop-g-preserved
 loop-g-preserved c =
     let n = c.args.circuit.now in
-    let marks = c.loop-g.marks in
-    let i = c.loop-g.g-index in
-    let new = c.mark_gate-is_new.new.marks in
+    let so_far = c.loop-g.invariant in
+    let marked = c.mark_gate-is_new.ensures in
+    let order = c.order-order.result.now in
     record {
-      grown = grown_more n c.args.marks.now marks new c.loop-g.invariant.grown c.mark_gate-is_new.ensures.grown;
-      swept = swept_join (λ (m : List Bool). (k : ℕ) → k < i → ClosesGate n (get_or c.order-order.result.now k 0) m)
-          (λ (m : List Bool). ClosesGate n (get_or c.order-order.result.now i 0) m)
-          (λ (m : List Bool). (k : ℕ) → k < i + 1 → ClosesGate n (get_or c.order-order.result.now k 0) m)
-          (λ m below here. below_more (λ (k : ℕ). ClosesGate n (get_or c.order-order.result.now k 0) m) i below here)
-          c.args.marks.now marks new c.loop-g.changed c.mark_gate-is_new.result c.if-is_new.changed
-          c.loop-g.invariant.grown.count c.mark_gate-is_new.ensures.grown.count c.loop-g.invariant.swept
-          c.mark_gate-is_new.ensures.swept
-          (λ yes. elim c.if-is_new.branch [
-            | then-is_new w ↦ w.changed-is
-            | else-is_new w ↦ absurd (both_ways c.mark_gate-is_new.result w.if-is_new.false yes)
-          ])
-          (λ wrong. elim c.if-is_new.branch [
-            | then-is_new w ↦ absurd (both_ways c.mark_gate-is_new.result wrong w.if-is_new.true)
-            | else-is_new w ↦ w.changed-is
+      grown = grown_more n c.args.marks.now c.loop-g.marks c.mark_gate-is_new.new.marks so_far.grown marked.grown;
+      swept = swept_more (λ (k : ℕ) (m : List Bool). ClosesGate n (get_or order k 0) m) c.loop-g.g-index
+          so_far.grown.count marked.grown.count so_far.swept marked.swept (elim c.if-is_new.branch [
+            | then-is_new w ↦ joins_new c.loop-g.changed w.if-is_new.true w.changed-is
+            | else-is_new w ↦ joins_old w.if-is_new.false w.changed-is
           ]);
     }
 
