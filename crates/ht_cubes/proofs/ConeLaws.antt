@@ -3,9 +3,11 @@ use Rattle.std.proofs.Common.{◌≡◌, ◌<◌, ◌≤◌, ◌+◌, ℕ, suc, 
 use Rattle.std.proofs.lemmas.List.{get_or-set_same, get_or-set_other, length-set}
 use Rattle.std.proofs.lemmas.Bool.{both_ways, cases_Bool, cases_eq, false≢true}
 use Rattle.ht_net.specs.declared.fault.Fault.{Fault}
-use Rattle.ht_net.specs.Netlist.{Netlist, first_gate_net, net_count, gate_at, arg_at, no_net}
+use Rattle.ht_net.specs.Netlist.{Netlist, net_count, arg_at, no_net}
+use Rattle.ht_cubes.specs.declared.cone.Reader.{Reader}
+use Rattle.ht_cubes.specs.declared.cone.Reader.TheVariants.{Gate, Dff}
 use Rattle.ht_cubes.specs.Rails.{Encloses, IsCone, first_changed}
-use Rattle.ht_cubes.specs.Cones.{marked, unmarked_count, AreReached, HaveGrown, ClosesGate, ClosesDff, CloseBoth, IsSwept}
+use Rattle.ht_cubes.specs.Cones.{marked, unmarked_count, AreReached, HaveGrown, IsReader, driven, ReadsMarked, CloseBoth, IsSwept}
 
 -- a new mark
 unmarked_set : (marks : List Bool) (x : ℕ) → x < length marks → get_or marks x false ≡ false
@@ -69,33 +71,20 @@ module _ (c : Netlist) where
     closed = λ wrong. h;
   }
 
-  -- the mark of what gate g drives, which stands at x
-  pub gate_grown : (marks : List Bool) (g x : ℕ) → g < length c.gates → x ≡ first_gate_net c + g → x < length marks
-      → get_or marks x false ≡ false
-      → (i : ℕ) × (i < length (gate_at c g).args) × (marked marks (arg_at c g i) ≡ true)
+  -- every set that encloses a fault, and so has the marks, has what reads a marked net and drives another
+  enclosed : (marks : List Bool) (reader : Reader) (fault : Fault) (nets : ℕ → Bool) → Encloses c fault nets
+      → AreReached c fault marks → IsReader c reader → ReadsMarked c marks reader → nets (driven c reader) ≡ true
+  enclosed marks (Gate g) fault nets closed reached there read =
+      closed.gates g read.0 there read.1 (reached nets closed (arg_at c g read.0) read.2)
+  enclosed marks (Dff j) fault nets closed reached there read =
+      closed.dffs j there (reached nets closed (get_or c.dffs j no_net).0 read)
+
+  -- the mark of what a gate or flip-flop drives, which stands at x
+  pub reader_grown : (marks : List Bool) (reader : Reader) (x : ℕ) → IsReader c reader → x ≡ driven c reader
+      → x < length marks → get_or marks x false ≡ false → ReadsMarked c marks reader
       → HaveGrown c marks (set marks x true)
-  gate_grown marks g x gate is inside none read = grown_set marks x inside none
-      (λ fault nets closed reached. ap nets is
-      ∙ closed.gates g read.0 gate read.1 (reached nets closed (arg_at c g read.0) read.2))
-
-  pub gate_closed : (marks : List Bool) (g x : ℕ) → x ≡ first_gate_net c + g → get_or marks x false ≡ true
-      → ClosesGate c g marks
-  gate_closed marks g x is on i l m = ap (λ (n : ℕ). get_or marks n false) (sym is) ∙ on
-
-  -- the mark of what flip-flop j drives, which stands at x and takes net y
-  pub dff_grown : (marks : List Bool) (j x y : ℕ) → j < length c.dffs → x ≡ c.inputs + j
-      → y ≡ (get_or c.dffs j no_net).0 → x < length marks → get_or marks x false ≡ false → get_or marks y false ≡ true
-      → HaveGrown c marks (set marks x true)
-  dff_grown marks j x y dff is taken inside none on = grown_set marks x inside none
-      (λ fault nets closed reached. ap nets is ∙ closed.dffs j dff (ap nets (sym taken) ∙ reached nets closed y on))
-
-  pub dff_closed : (marks : List Bool) (j x : ℕ) → x ≡ c.inputs + j → get_or marks x false ≡ true → ClosesDff c j marks
-  dff_closed marks j x is on m = ap (λ (n : ℕ). get_or marks n false) (sym is) ∙ on
-
-  pub dff_apart : (marks : List Bool) (j y : ℕ) → y ≡ (get_or c.dffs j no_net).0 → get_or marks y false ≡ false
-      → ClosesDff c j marks
-  dff_apart marks j y taken off m =
-      absurd (both_ways (get_or marks y false) off (ap (λ (n : ℕ). get_or marks n false) taken ∙ m))
+  reader_grown marks reader x there is inside none read = grown_set marks x inside none
+      (λ fault nets closed reached. ap nets is ∙ enclosed marks reader fault nets closed reached there read)
 
 -- what a sweep closes, said otherwise
 pub swept_so : (P Q : Type 0) → (P → Q) → (a b : List Bool) (x : Bool) → IsSwept P a b x → IsSwept Q a b x
@@ -121,7 +110,7 @@ swept_join P Q R join a b d x y z few less one two right wrong = record {
     x_off not = sym (wrong (off not)) ∙ not
 
 -- Whether some mark is new, with one answer more.
-abbrev Joins : Bool → Bool → Bool → Type 0
+abbrev pub Joins : Bool → Bool → Bool → Type 0
 Joins before one now = (one ≡ true → now ≡ true) × (one ≡ false → now ≡ before)
 
 pub joins_new : (before : Bool) {one now : Bool} → one ≡ true → now ≡ true → Joins before one now
@@ -146,7 +135,7 @@ pub cone_found : (c : Netlist) (fault : Fault) (marks : List Bool)
 cone_found c fault marks first reached closed = record {
   encloses = record {
     first = first;
-    gates = λ g i inside pin h. closed.gates g inside i pin h;
+    gates = λ g i inside pin h. closed.gates g inside (i, pin, h);
     dffs = λ j inside h. closed.dffs j inside h;
   };
   least = reached;

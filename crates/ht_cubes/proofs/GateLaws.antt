@@ -26,24 +26,14 @@ Tells values s t = (bit : Bool) → truth_of values (rail_of s bit) ≡ is_defin
 
 -- what is definitely a bit is that bit, and the other way round
 pub definite_is : (bit : Bool) (t : Tern) → is_definitely bit t ≡ true → t ≡ tern_of bit
-definite_is true Zero e = cc
-definite_is true One e = refl
-definite_is true Unk e = cc
-definite_is false Zero e = refl
-definite_is false One e = cc
-definite_is false Unk e = cc
+definite_is bit t e = grind arith
 
 pub is_definite : (bit : Bool) → is_definitely bit (tern_of bit) ≡ true
 is_definite true = refl
 is_definite false = refl
 
 definitely_turned : (bit : Bool) (t : Tern) → is_definitely (not bit) t ≡ is_definitely bit (complement_of t)
-definitely_turned true Zero = refl
-definitely_turned true One = refl
-definitely_turned true Unk = refl
-definitely_turned false Zero = refl
-definitely_turned false One = refl
-definitely_turned false Unk = refl
+definitely_turned bit t = grind arith
 
 rail_turned : (s : Signal) (bit : Bool) → rail_of (turned s) bit ≡ rail_of s (not bit)
 rail_turned s true = refl
@@ -70,32 +60,16 @@ SomeIs v [] = ⊥
 SomeIs v (t ∷ ts) = (t ≡ v) ⊎ SomeIs v ts
 
 and_both : (a b : Tern) → and_of a b ≡ One → (a ≡ One) × (b ≡ One)
-and_both Zero b e = cc
-and_both One b e = (refl, e)
-and_both Unk Zero e = cc
-and_both Unk One e = cc
-and_both Unk Unk e = cc
+and_both a b e = (grind arith, grind arith)
 
 and_either : (a b : Tern) → and_of a b ≡ Zero → (a ≡ Zero) ⊎ (b ≡ Zero)
-and_either Zero b e = inl refl
-and_either One b e = inr e
-and_either Unk Zero e = inr refl
-and_either Unk One e = cc
-and_either Unk Unk e = cc
+and_either a b e = grind arith
 
 or_both : (a b : Tern) → or_of a b ≡ Zero → (a ≡ Zero) × (b ≡ Zero)
-or_both One b e = cc
-or_both Zero b e = (refl, e)
-or_both Unk Zero e = cc
-or_both Unk One e = cc
-or_both Unk Unk e = cc
+or_both a b e = (grind arith, grind arith)
 
 or_either : (a b : Tern) → or_of a b ≡ One → (a ≡ One) ⊎ (b ≡ One)
-or_either One b e = inl refl
-or_either Zero b e = inr e
-or_either Unk One e = inr refl
-or_either Unk Zero e = cc
-or_either Unk Unk e = cc
+or_either a b e = grind arith
 
 -- a fold that is v only where both parts are
 all_from_fold : (op : Tern → Tern → Tern) (v : Tern) → ((a b : Tern) → op a b ≡ v → (a ≡ v) × (b ≡ v))

@@ -2,6 +2,8 @@
 use Rattle.std.specs.Prelude.{◌≡◌, ◌<◌, ◌≤◌, ◌+◌, ℕ, suc, List, [], ◌∷◌, Bool, true, false, length, get_or}
 use Rattle.ht_net.specs.declared.fault.Fault.{Fault}
 use Rattle.ht_net.specs.Netlist.{Netlist, first_gate_net, gate_at, arg_at, no_net}
+use Rattle.ht_cubes.specs.declared.cone.Reader.{Reader}
+use Rattle.ht_cubes.specs.declared.cone.Reader.TheVariants.{Gate, Dff}
 use Rattle.ht_cubes.specs.Rails.{Encloses}
 
 -- The marked nets as a set.
@@ -26,22 +28,32 @@ pub record HaveGrown (c : Netlist) (old new : List Bool) : Type 0 where
   pub reached : (fault : Fault) → AreReached c fault old → AreReached c fault new
   pub count : unmarked_count new ≤ unmarked_count old
 
--- With a net that gate g reads the marks have the net that it drives.
-abbrev pub ClosesGate : Netlist → ℕ → List Bool → Type 0
-ClosesGate c g marks = (i : ℕ) → i < length (gate_at c g).args → marked marks (arg_at c g i) ≡ true
-    → marked marks (first_gate_net c + g) ≡ true
+-- A gate or a flip-flop is there.
+abbrev pub IsReader : Netlist → Reader → Type 0
+IsReader c (Gate g) = g < length c.gates
+IsReader c (Dff j) = j < length c.dffs
 
--- With the net that flip-flop j takes the marks have the net that it drives.
-abbrev pub ClosesDff : Netlist → ℕ → List Bool → Type 0
-ClosesDff c j marks = marked marks (get_or c.dffs j no_net).0 ≡ true → marked marks (c.inputs + j) ≡ true
+-- The net that it drives.
+abbrev pub driven : Netlist → Reader → ℕ
+driven c (Gate g) = first_gate_net c + g
+driven c (Dff j) = c.inputs + j
+
+-- It reads a marked net.
+abbrev pub ReadsMarked : Netlist → List Bool → Reader → Type 0
+ReadsMarked c marks (Gate g) = (i : ℕ) × (i < length (gate_at c g).args) × (marked marks (arg_at c g i) ≡ true)
+ReadsMarked c marks (Dff j) = marked marks (get_or c.dffs j no_net).0 ≡ true
+
+-- With a net that it reads the marks have the net that it drives.
+abbrev pub Closes : Netlist → Reader → List Bool → Type 0
+Closes c reader marks = ReadsMarked c marks reader → marked marks (driven c reader) ≡ true
 
 -- With a net the marks have what the gates that read it drive.
 abbrev pub CloseGates : Netlist → List Bool → Type 0
-CloseGates c marks = (g : ℕ) → g < length c.gates → ClosesGate c g marks
+CloseGates c marks = (g : ℕ) → g < length c.gates → Closes c (Gate g) marks
 
 -- With a net the marks have what the flip-flops that take it drive.
 abbrev pub CloseDffs : Netlist → List Bool → Type 0
-CloseDffs c marks = (j : ℕ) → j < length c.dffs → ClosesDff c j marks
+CloseDffs c marks = (j : ℕ) → j < length c.dffs → Closes c (Dff j) marks
 
 -- With a net the marks have all that reads it drives.
 pub record CloseBoth (c : Netlist) (marks : List Bool) : Type 0 where

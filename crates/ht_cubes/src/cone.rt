@@ -1,12 +1,20 @@
 //! The cone of a fault: the nets that its effect may come to.
-ghost use Rattle.std.specs.Prelude.{◌≡◌, ◌↔◌, ◌<◌, ℕ, IsTrue, true, length, IfOk};
+ghost use Rattle.std.specs.Prelude.{◌≡◌, ◌↔◌, ◌<◌, IsTrue, true, length, IfOk};
 ghost use Rattle.ht_net.specs.declared.fault.Fault.{Fault};
-ghost use Rattle.ht_net.specs.Netlist.{arg_at, gate_at, net_count};
+ghost use Rattle.ht_net.specs.Netlist.{net_count};
+ghost use Rattle.ht_cubes.specs.declared.cone.Reader.TheVariants.{Gate};
 ghost use Rattle.ht_cubes.specs.Rails.{IsCone, first_changed};
-ghost use Rattle.ht_cubes.specs.Cones.{AreReached, CloseBoth, CloseDffs, CloseGates, ClosesDff, ClosesGate, HaveGrown, IsSwept, marked};
+ghost use Rattle.ht_cubes.specs.Cones.{AreReached, CloseBoth, Closes, HaveGrown, IsReader, IsSwept, ReadsMarked, driven, marked};
 
 use ht_net::{Circuit, Fault, Site};
 use std::alloc::{AllocError, Global};
+
+// What reads nets and drives one: a gate or a flip-flop, by its number.
+#[derive(Clone, Copy)]
+enum Reader {
+    Gate(u32),
+    Dff(u32),
+}
 
 // The net that a stuck line changes first, also where the line isn't there.
 fn first_changed(circuit: &Circuit, site: Site) -> u64
@@ -21,12 +29,23 @@ fn first_changed(circuit: &Circuit, site: Site) -> u64
     }
 }
 
+// The net that a gate or flip-flop drives.
+fn net_of(circuit: &Circuit, reader: Reader) -> usize
+    requires { IsReader circuit.now reader }
+    ensures net { result ≡ driven circuit.now reader }
+    ensures known { result < net_count circuit.now }
+{
+    match reader {
+        Reader::Gate(g) => circuit.gate_net(g).index(),
+        Reader::Dff(j) => circuit.dff_net(j).index(),
+    }
+}
+
 // Whether a gate reads a marked net.
-fn reads_marked(circuit: &Circuit, marks: &[bool], g: u32) -> bool
+fn gate_reads_marked(circuit: &Circuit, marks: &[bool], g: u32) -> bool
     requires gate { g < length circuit.now.gates }
     requires marks { length marks.now ≡ net_count circuit.now }
-    ensures { IsTrue result ↔ ((i : ℕ) × (i < length (gate_at circuit.now g).args)
-        × (marked marks.now (arg_at circuit.now g i) ≡ true)) }
+    ensures { IsTrue result ↔ ReadsMarked circuit.now marks.now (Gate g) }
 {
     prove_eq!(marks.len(), circuit.nets() as usize);
     let args = circuit.gate_args(g);
@@ -39,20 +58,32 @@ fn reads_marked(circuit: &Circuit, marks: &[bool], g: u32) -> bool
     false
 }
 
-// Marks what a gate drives that reads a marked net. Says whether the mark is new.
-fn mark_gate(circuit: &Circuit, marks: &mut [bool], g: u32) -> bool
-    requires gate { g < length circuit.now.gates }
-    requires marks { length marks.old ≡ net_count circuit.now }
-    ensures grown { HaveGrown circuit.now marks.old marks.new }
-    ensures swept { IsSwept (ClosesGate circuit.now g marks.new) marks.old marks.new result }
+// Whether a gate or flip-flop reads a marked net.
+fn reads_marked(circuit: &Circuit, marks: &[bool], reader: Reader) -> bool
+    requires reader { IsReader circuit.now reader }
+    requires marks { length marks.now ≡ net_count circuit.now }
+    ensures { IsTrue result ↔ ReadsMarked circuit.now marks.now reader }
 {
     prove_eq!(marks.len(), circuit.nets() as usize);
-    let net = circuit.gate_net(g).index();
+    match reader {
+        Reader::Gate(g) => gate_reads_marked(circuit, marks, g),
+        Reader::Dff(j) => marks[circuit.dff_data(j).index()],
+    }
+}
+
+// Marks what a gate or flip-flop drives that reads a marked net. Says whether the mark is new.
+fn mark(circuit: &Circuit, marks: &mut [bool], reader: Reader) -> bool
+    requires reader { IsReader circuit.now reader }
+    requires marks { length marks.old ≡ net_count circuit.now }
+    ensures grown { HaveGrown circuit.now marks.old marks.new }
+    ensures swept { IsSwept (Closes circuit.now reader marks.new) marks.old marks.new result }
+{
+    let net = net_of(circuit, reader);
     let old = marks[net];
     if old {
         return false;
     }
-    let reads = reads_marked(circuit, marks, g);
+    let reads = reads_marked(circuit, marks, reader);
     if !reads {
         return false;
     }
@@ -60,72 +91,28 @@ fn mark_gate(circuit: &Circuit, marks: &mut [bool], g: u32) -> bool
     true
 }
 
-// Marks what a flip-flop drives that takes a marked net. Says whether the mark is new.
-fn mark_dff(circuit: &Circuit, marks: &mut [bool], j: u32) -> bool
-    requires dff { j < length circuit.now.dffs }
-    requires marks { length marks.old ≡ net_count circuit.now }
-    ensures grown { HaveGrown circuit.now marks.old marks.new }
-    ensures swept { IsSwept (ClosesDff circuit.now j marks.new) marks.old marks.new result }
-{
-    prove_eq!(marks.len(), circuit.nets() as usize);
-    let net = circuit.dff_net(j).index();
-    let old = marks[net];
-    if old {
-        return false;
-    }
-    let takes = marks[circuit.dff_data(j).index()];
-    if !takes {
-        return false;
-    }
-    marks[net] = true;
-    true
-}
-
-// Marks what the gates drive that read a marked net, in the order of the gates. Says whether a mark is new.
-fn sweep_gates(circuit: &Circuit, marks: &mut [bool]) -> bool
-    requires { length marks.old ≡ net_count circuit.now }
-    ensures grown { HaveGrown circuit.now marks.old marks.new }
-    ensures swept { IsSwept (CloseGates circuit.now marks.new) marks.old marks.new result }
-{
-    let order = circuit.order();
-    let mut changed = false;
-    for g in order {
-        let is_new = mark_gate(circuit, marks, *g);
-        if is_new {
-            changed = true;
-        }
-    }
-    changed
-}
-
-// Marks what the flip-flops drive that take a marked net. Says whether a mark is new.
-fn sweep_dffs(circuit: &Circuit, marks: &mut [bool]) -> bool
-    requires { length marks.old ≡ net_count circuit.now }
-    ensures grown { HaveGrown circuit.now marks.old marks.new }
-    ensures swept { IsSwept (CloseDffs circuit.now marks.new) marks.old marks.new result }
-{
-    let mut changed = false;
-    for j in 0..circuit.dffs() {
-        let is_new = mark_dff(circuit, marks, j);
-        if is_new {
-            changed = true;
-        }
-    }
-    changed
-}
-
-// Marks what the gates and flip-flops drive that read a marked net. Says whether a mark is new.
+// Marks what the gates drive that read a marked net, in the order of the gates, and then what the flip-flops drive.
+// Says whether a mark is new.
 fn sweep(circuit: &Circuit, marks: &mut [bool]) -> bool
     requires { length marks.old ≡ net_count circuit.now }
     ensures grown { HaveGrown circuit.now marks.old marks.new }
     ensures swept { IsSwept (CloseBoth circuit.now marks.new) marks.old marks.new result }
 {
-    let gates = sweep_gates(circuit, marks);
-    let dffs = sweep_dffs(circuit, marks);
-    if dffs {
-        return true;
+    let order = circuit.order();
+    let mut changed = false;
+    'gates: for g in order {
+        let by_gate = mark(circuit, marks, Reader::Gate(*g));
+        if by_gate {
+            changed = true;
+        }
     }
-    gates
+    'dffs: for j in 0..circuit.dffs() {
+        let by_dff = mark(circuit, marks, Reader::Dff(j));
+        if by_dff {
+            changed = true;
+        }
+    }
+    changed
 }
 
 // Marks nets until no mark is new. A sweep of the gates takes them in their order, so there are as many sweeps as the

@@ -8,24 +8,19 @@ ghost use Rattle.ht_cubes.specs.Cones.{marked};
 
 use crate::frame::push_frame;
 use crate::targets::{all_targets, is_constant, push_cubes, push_targets};
-use crate::{Cube, SignedVar};
-use ht_items::FlatRows;
+use crate::{Cube, Rows, SignedVar};
 use ht_net::{Circuit, Fault};
 use std::alloc::{AllocError, Global};
 
 /// A formula: its clauses, numbered from 1, and the highest variable.
 #[derive(Drop)]
 pub(crate) struct Formula {
-    pub clauses: FlatRows<SignedVar>,
+    pub clauses: Rows,
     pub last: u32,
 }
 
 // Adds a clause without its constants, or nothing where one is true.
-fn push_plain(
-    alloc: Global,
-    rows: &mut FlatRows<SignedVar>,
-    clause: &[SignedVar],
-) -> Result<(), AllocError>
+fn push_plain(alloc: Global, rows: &mut Rows, clause: &[SignedVar]) -> Result<(), AllocError>
     ensures { OnOk result (rows.new ≡ rows.old ++ without_constants clause.now) }
 {
     let mut plain = Vec::new(alloc);
@@ -43,13 +38,10 @@ fn push_plain(
 }
 
 // The clauses without constants.
-fn without_constants(
-    alloc: Global,
-    clauses: &FlatRows<SignedVar>,
-) -> Result<FlatRows<SignedVar>, AllocError>
+fn without_constants(alloc: Global, clauses: &Rows) -> Result<Rows, AllocError>
     ensures { IfOk result (λ rows. rows ≡ flat_map without_constants clauses.now) }
 {
-    let mut rows = FlatRows::new(alloc);
+    let mut rows = Rows::new(alloc);
     'clauses: for i in 0..clauses.len() {
         push_plain(alloc, &mut rows, clauses.row(i))?;
     }
@@ -76,7 +68,7 @@ pub(crate) fn build(
     ensures few { IfOk result (λ f. f.last < 2 ^ 32 - 1) }
 {
     let rails = 4 * circuit.nets();
-    let mut rows = FlatRows::new(alloc);
+    let mut rows = Rows::new(alloc);
     push_frame(alloc, &mut rows, circuit, fault, cone)?;
     push_cubes(alloc, &mut rows, circuit, cone, cubes)?;
     let targets = all_targets(alloc, circuit, fault, cone, cubes)?;

@@ -7,9 +7,8 @@ ghost use Rattle.ht_cubes.specs.Cones.{marked};
 
 use crate::gates::{push_either, push_gate};
 use crate::lines::{driver, net, stuck_line};
-use crate::{Signal, SignedVar};
+use crate::{Rows, Signal};
 use ht_frame::gate_pin;
-use ht_items::FlatRows;
 use ht_net::{Circuit, Fault, Site};
 use std::alloc::{AllocError, Global};
 
@@ -39,7 +38,7 @@ fn pins_of(
 // Gate `g` of a machine.
 fn push_machine(
     alloc: Global,
-    rows: &mut FlatRows<SignedVar>,
+    rows: &mut Rows,
     circuit: &Circuit,
     fault: Fault,
     cone: &[bool],
@@ -85,7 +84,7 @@ fn is_doubled(circuit: &Circuit, fault: Fault, cone: &[bool], g: u32) -> bool
 // Gate `g` of the good machine, and of the faulty one where it has clauses of its own.
 fn push_both(
     alloc: Global,
-    rows: &mut FlatRows<SignedVar>,
+    rows: &mut Rows,
     circuit: &Circuit,
     fault: Fault,
     cone: &[bool],
@@ -104,12 +103,7 @@ fn push_both(
 }
 
 // What latch `j` of each machine holds.
-fn push_latch(
-    rows: &mut FlatRows<SignedVar>,
-    circuit: &Circuit,
-    cone: &[bool],
-    j: u32,
-) -> Result<(), AllocError>
+fn push_latch(rows: &mut Rows, circuit: &Circuit, cone: &[bool], j: u32) -> Result<(), AllocError>
     requires latch { j < length circuit.now.dffs }
     requires cone { length cone.now ≡ net_count circuit.now }
     ensures { OnOk result (rows.new ≡ rows.old ++ latch_clauses circuit.now (marked cone.now) j) }
@@ -127,7 +121,7 @@ fn push_latch(
 /// The clauses of one frame of both machines.
 pub(crate) fn push_frame(
     alloc: Global,
-    rows: &mut FlatRows<SignedVar>,
+    rows: &mut Rows,
     circuit: &Circuit,
     fault: Fault,
     cone: &[bool],

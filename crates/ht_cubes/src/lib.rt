@@ -16,6 +16,7 @@ mod clause_step;
 mod cone;
 mod formula;
 mod frame;
+mod gate_lines;
 mod gates;
 mod lines;
 mod parity;
@@ -32,6 +33,7 @@ pub use clause_step::ClauseStep;
 pub use rail::{Cube, Rail};
 pub use refutation::refuted;
 pub use signal::Signal;
+use signed_var::Rows;
 pub use signed_var::SignedVar;
 pub use theorems::{
     passing_cubes_exclude_detection, passing_cubes_refute, refuting_cubes_exclude_detection,

@@ -1,9 +1,10 @@
 //! The clauses of parities.
 ghost use Rattle.std.specs.Prelude.{◌≡◌, ◌++◌, ◌∷◌, [], length, map, IfOk, OnOk};
 ghost use Rattle.ht_tern.specs.Gate.{bool_xor};
-ghost use Rattle.ht_cubes.specs.Formula.{choices, excluded, exclusions, needs, parity_clauses, parity_of, rail_of};
+ghost use Rattle.ht_cubes.specs.Formula.{choices, excluded, exclusions, needs, parity_clauses, parity_of};
 
-use crate::{Signal, SignedVar};
+use crate::gate_lines::GateLines;
+use crate::{Rows, Signal, SignedVar};
 use ht_items::FlatRows;
 use std::alloc::{AllocError, Global};
 
@@ -59,7 +60,7 @@ fn has_other_parity(bit: bool, bits: &[bool]) -> bool
 // The clause that excludes a choice of the pins' bits.
 fn push_exclusion(
     alloc: Global,
-    rows: &mut FlatRows<SignedVar>,
+    rows: &mut Rows,
     rail: SignedVar,
     pins: &[Signal],
     bits: &[bool],
@@ -75,42 +76,32 @@ fn push_exclusion(
     rows.push(&clause)
 }
 
-// What a parity at a bit excludes.
-fn push_exclusions(
-    alloc: Global,
-    rows: &mut FlatRows<SignedVar>,
-    bit: bool,
-    out: Signal,
-    pins: &[Signal],
-) -> Result<(), AllocError>
-    ensures { OnOk result (rows.new ≡ rows.old ++ exclusions bit out pins.now) }
-{
-    let all = choices(alloc, pins.len())?;
-    for i in 0..all.len() {
-        let bits = all.row(i);
-        let excludes = has_other_parity(bit, bits);
-        if excludes {
-            push_exclusion(alloc, rows, out.rail(bit), pins, bits)?;
+impl<'a> GateLines<'a> {
+    // What a parity at a bit excludes.
+    fn push_exclusions(&self, alloc: Global, rows: &mut Rows, bit: bool) -> Result<(), AllocError>
+        ensures { OnOk result (rows.new ≡ rows.old ++ exclusions bit self.now.out self.now.pins.now) }
+    {
+        let all = choices(alloc, self.pins.len())?;
+        for i in 0..all.len() {
+            let bits = all.row(i);
+            let excludes = has_other_parity(bit, bits);
+            if excludes {
+                push_exclusion(alloc, rows, self.out.rail(bit), self.pins, bits)?;
+            }
         }
+        Ok(())
     }
-    Ok(())
-}
 
-/// What a parity at a bit needs.
-pub(crate) fn push_parity(
-    alloc: Global,
-    rows: &mut FlatRows<SignedVar>,
-    bit: bool,
-    out: Signal,
-    pins: &[Signal],
-) -> Result<(), AllocError>
-    ensures { OnOk result (rows.new ≡ rows.old ++ parity_clauses bit out pins.now) }
-{
-    'pins: for pin in pins {
-        rows.push(&[out.rail(bit).complement(), pin.zero, pin.one])?;
+    /// What a parity at a bit needs.
+    pub fn push_parity(&self, alloc: Global, rows: &mut Rows, bit: bool) -> Result<(), AllocError>
+        ensures { OnOk result (rows.new ≡ rows.old ++ parity_clauses bit self.now.out self.now.pins.now) }
+    {
+        'pins: for pin in self.pins {
+            rows.push(&[self.out.rail(bit).complement(), pin.zero, pin.one])?;
+        }
+        if self.pins.len() <= MAX_PARITY_PINS {
+            self.push_exclusions(alloc, rows, bit)?;
+        }
+        Ok(())
     }
-    if pins.len() <= MAX_PARITY_PINS {
-        push_exclusions(alloc, rows, bit, out, pins)?;
-    }
-    Ok(())
 }

@@ -2,6 +2,8 @@
 ghost use Rattle.std.specs.Prelude.{◌≡◌};
 ghost use Rattle.ht_cubes.specs.Formula.{complement, constant};
 
+use ht_items::FlatRows;
+
 /// A variable of the formula, or its negation: the variable has this value. Variables count from 1; while clauses are
 /// made, 0 is the constant true.
 #[derive(Clone, Copy, PartialEq, Eq, Debug)]
@@ -9,6 +11,9 @@ pub struct SignedVar {
     pub variable: u32,
     pub value: bool,
 }
+
+/// Rows of signed variables: clauses, or targets.
+pub(crate) type Rows = FlatRows<SignedVar>;
 
 impl SignedVar {
     /// The signed variable that says the opposite.

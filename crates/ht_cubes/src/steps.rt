@@ -9,8 +9,7 @@ ghost use Rattle.ht_cubes.specs.Steps.{Clash, EndsEmpty, HasNoOpposites, IsNumbe
 ghost use Rattle.ht_cubes.specs.Values.{IsBelow, SayFacts};
 
 use crate::standing::{Standing, stands};
-use crate::{ClauseStep, SignedVar};
-use ht_items::FlatRows;
+use crate::{ClauseStep, Rows, SignedVar};
 use ht_trail::Cells;
 use std::alloc::{AllocError, Global};
 
@@ -38,18 +37,14 @@ fn deny(values: &mut Cells<Option<bool>>, clause: &[SignedVar]) -> Result<bool, 
 }
 
 // Whether a hint is the number of a clause.
-fn is_number(rows: &FlatRows<SignedVar>, hint: u32) -> bool
+fn is_number(rows: &Rows, hint: u32) -> bool
     ensures { IsTrue result ↔ IsNumber rows.now hint }
 {
     hint != 0 && hint as usize <= rows.len()
 }
 
 // Whether the hints lead to a clause that fails.
-fn clash(
-    values: &mut Cells<Option<bool>>,
-    rows: &FlatRows<SignedVar>,
-    hints: &[u32],
-) -> Result<bool, AllocError>
+fn clash(values: &mut Cells<Option<bool>>, rows: &Rows, hints: &[u32]) -> Result<bool, AllocError>
     requires below { All (IsBelow (length values.old.values)) rows.now }
     ensures later { IsLater values.old values.new }
     ensures exact { IfOk result (λ yes. (facts : List SignedVar) → SayFacts facts values.old.values
@@ -71,7 +66,7 @@ fn clash(
 // Whether a step passes after these clauses. The values are as before.
 fn step_passes(
     values: &mut Cells<Option<bool>>,
-    rows: &FlatRows<SignedVar>,
+    rows: &Rows,
     step: &ClauseStep,
 ) -> Result<bool, AllocError>
     requires clear { SayFacts [] values.old.values }
@@ -96,7 +91,7 @@ fn step_passes(
 pub(crate) fn steps_pass(
     alloc: Global,
     last: u32,
-    rows: &mut FlatRows<SignedVar>,
+    rows: &mut Rows,
     steps: &[ClauseStep],
 ) -> Result<bool, AllocError>
     requires few { last < 2 ^ 32 - 1 }

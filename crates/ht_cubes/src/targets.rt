@@ -8,15 +8,14 @@ ghost use Rattle.ht_cubes.specs.Formula.{cube_clause, is_constant, may_come, nee
 ghost use Rattle.ht_cubes.specs.Cones.{marked};
 
 use crate::lines::{driver, net, next};
-use crate::{Cube, Rail, SignedVar};
-use ht_items::FlatRows;
+use crate::{Cube, Rail, Rows, SignedVar};
 use ht_net::{Circuit, Fault, NetId};
 use std::alloc::{AllocError, Global};
 
 // The clause by which not all rails of a cube hold.
 fn push_cube(
     alloc: Global,
-    rows: &mut FlatRows<SignedVar>,
+    rows: &mut Rows,
     circuit: &Circuit,
     cone: &[bool],
     cube: &[Rail],
@@ -37,7 +36,7 @@ fn push_cube(
 /// The clauses of the cubes that are avoided.
 pub(crate) fn push_cubes(
     alloc: Global,
-    rows: &mut FlatRows<SignedVar>,
+    rows: &mut Rows,
     circuit: &Circuit,
     cone: &[bool],
     cubes: &[Cube],
@@ -60,7 +59,7 @@ pub(crate) fn is_constant(bit: bool, literal: SignedVar) -> bool
 }
 
 // Adds a target that may come.
-fn push_target(rows: &mut FlatRows<SignedVar>, target: &[SignedVar]) -> Result<(), AllocError>
+fn push_target(rows: &mut Rows, target: &[SignedVar]) -> Result<(), AllocError>
     ensures { OnOk result (rows.new ≡ rows.old ++ filter may_come (target.now ∷ [])) }
 {
     'rails: for rail in target {
@@ -75,7 +74,7 @@ fn push_target(rows: &mut FlatRows<SignedVar>, target: &[SignedVar]) -> Result<(
 // The target of a cube.
 fn push_next(
     alloc: Global,
-    rows: &mut FlatRows<SignedVar>,
+    rows: &mut Rows,
     circuit: &Circuit,
     fault: Fault,
     cone: &[bool],
@@ -96,7 +95,7 @@ fn push_next(
 
 // The targets of an output.
 fn push_output(
-    rows: &mut FlatRows<SignedVar>,
+    rows: &mut Rows,
     circuit: &Circuit,
     fault: Fault,
     cone: &[bool],
@@ -126,13 +125,13 @@ pub(crate) fn all_targets(
     fault: Fault,
     cone: &[bool],
     cubes: &[Cube],
-) -> Result<FlatRows<SignedVar>, AllocError>
+) -> Result<Rows, AllocError>
     requires known { All (All (IsKnownRail circuit.now (marked cone.now))) cubes.now }
     requires cone { length cone.now ≡ net_count circuit.now }
     ensures { IfOk result (λ rows. rows ≡ targets_of circuit.now fault (marked cone.now) cubes.now) }
 {
     prove_eq!(cone.len(), circuit.nets() as usize);
-    let mut rows = FlatRows::new(alloc);
+    let mut rows = Rows::new(alloc);
     'cubes: for cube in cubes {
         push_next(alloc, &mut rows, circuit, fault, cone, cube.as_slice())?;
     }
@@ -144,11 +143,7 @@ pub(crate) fn all_targets(
 }
 
 // The clauses by which a target's variable needs its rails.
-fn push_needs(
-    rows: &mut FlatRows<SignedVar>,
-    variable: u32,
-    target: &[SignedVar],
-) -> Result<(), AllocError>
+fn push_needs(rows: &mut Rows, variable: u32, target: &[SignedVar]) -> Result<(), AllocError>
     ensures { OnOk result (rows.new ≡ rows.old
         ++ map (λ l. needs (positive variable) (l ∷ [])) target.now) }
 {
@@ -167,9 +162,9 @@ fn push_needs(
 /// The clauses of the targets, whose variables are from `first` on, and the clause by which some target comes.
 pub(crate) fn push_targets(
     alloc: Global,
-    rows: &mut FlatRows<SignedVar>,
+    rows: &mut Rows,
     first: u32,
-    targets: &FlatRows<SignedVar>,
+    targets: &Rows,
 ) -> Result<(), AllocError>
     requires { first + length targets.now < 2 ^ 32 }
     ensures { OnOk result (rows.new ≡ rows.old ++ (target_clauses first targets.now

@@ -6,12 +6,12 @@ use Rattle.ht_cubes.specs.declared.signed_var.SignedVar.{SignedVar}
 use Rattle.ht_cubes.specs.Formula.{choices, parity_of, excluded, rail_of, needs}
 use Rattle.ht_cubes.proofs.GateLaws.{choices_long}
 use Rattle.ht_cubes.proofs.PieceLaws.{kept_on, left_on}
-use Rattle.ht_cubes.proofs.parity.push_exclusions.Goals as goal
-use Rattle.ht_cubes.proofs.parity.push_exclusions.Goals.{then-excludes+in_ok-push_exclusion, else-excludes}
+use Rattle.ht_cubes.proofs.gate_lines.GateLines.push_exclusions.Goals as goal
+use Rattle.ht_cubes.proofs.gate_lines.GateLines.push_exclusions.Goals.{then-excludes+in_ok-push_exclusion, else-excludes}
 
 pub push_exclusion-requires : goal.push_exclusion-requires
 push_exclusion-requires c =
-    let pins = c.args.pins.now in
+    let pins = c.args.self.now.pins.now in
     let all = c.in_ok-all.all in
     let e = c.len-i-end.ensures in
     let inside : c.loop-i.i < length all = omega (arith, e, c.loop-i-test.true) in
@@ -23,11 +23,11 @@ push_exclusion-requires c =
 pub loop-i-preserved : goal.loop-i-preserved
 loop-i-preserved c =
     let bit = c.args.bit in
-    let pins = c.args.pins.now in
+    let pins = c.args.self.now.pins.now in
     let all = choices (length pins) in
     let i = c.loop-i.i in
     let p = λ (bits : List Bool). bool_xor bit (parity_of bits) in
-    let f = λ (bits : List Bool). needs (rail_of c.args.out bit) (excluded pins bits) in
+    let f = λ (bits : List Bool). needs (rail_of c.args.self.now.out bit) (excluded pins bits) in
     let e = c.len-i-end.ensures in
     let is = c.in_ok-all.ensures in
     let long = ap (λ (x : List (List Bool)). length x) is in
@@ -39,7 +39,7 @@ loop-i-preserved c =
           c.if-excludes.rows c.loop-i.invariant (sym says ∙ w.if-excludes.true)
           (w.rows-is ∙ (w.in_ok-push_exclusion.ensures
           ∙ (ap (λ (l : SignedVar). c.loop-i.rows ++ needs l (excluded pins c.row-bits.result.now) ∷ []) w.rail.ensures
-          ∙ ap (λ (b : List Bool). c.loop-i.rows ++ needs (rail_of c.args.out bit) (excluded pins b) ∷ []) read)))
+          ∙ ap (λ (b : List Bool). c.loop-i.rows ++ needs (rail_of c.args.self.now.out bit) (excluded pins b) ∷ []) read)))
       | else-excludes w ↦ left_on p f all i [] inside c.args.rows.now c.loop-i.rows c.if-excludes.rows
           c.loop-i.invariant (sym says ∙ w.if-excludes.false) w.rows-is
     ]
@@ -47,9 +47,9 @@ loop-i-preserved c =
 pub returns : goal.returns
 returns c =
     let bit = c.args.bit in
-    let pins = c.args.pins.now in
+    let pins = c.args.self.now.pins.now in
     let p = λ (bits : List Bool). bool_xor bit (parity_of bits) in
-    let f = λ (bits : List Bool). needs (rail_of c.args.out bit) (excluded pins bits) in
+    let f = λ (bits : List Bool). needs (rail_of c.args.self.now.out bit) (excluded pins bits) in
     let e = c.len-i-end.ensures in
     let long = ap (λ (x : List (List Bool)). length x) c.in_ok-all.ensures in
     c.loop-i.invariant ∙ ap (λ (l : List (List Bool)). c.args.rows.now ++ map f (filter p l))
