@@ -3,7 +3,7 @@ use Rattle.std.proofs.Common.{◌≡◌, ℕ, ◌+◌, List, [], ◌++◌, take,
 use lib.Seq.{take-add}
 use Rattle.std.specs.declared.option.Option.{Option}
 use Rattle.std.specs.Io.KnownBytes.{append_known, prepend_known}
-use Rattle.ht_ports.specs.Desk.{DeskView, IsAfter, ChangesAt, TurnsOn, InCall, OutCall, Writes, Added, IsOtherName}
+use Rattle.ht_ports.specs.Desk.{DeskView, IsAfter, ChangesAt, TurnsOn, InCall, OutCall, Reads, TookFront, Writes, Added, IsOtherName}
 use Rattle.ht_ports.specs.declared.ports.InPort.{InPort}
 use Rattle.ht_ports.specs.declared.ports.OutPort.{OutPort}
 
@@ -31,6 +31,12 @@ in_call_trans port a b c p q = record {
   is_created = q.is_created ∙ p.is_created;
   left = changes_trans p.left q.left;
   is_open = turns_trans p.is_open q.is_open;
+}
+
+pub reads_trans : (port : InPort) (a b c : DeskView) → Reads port a b → Reads port b c → Reads port a c
+reads_trans port a b c p q = record {
+  call = in_call_trans port a b c p.call q.call;
+  is_open = q.is_open ∙ p.is_open;
 }
 
 -- the second call keeps the port's name
@@ -79,3 +85,11 @@ pub prepend_known_more : (known : Option (List ℕ)) (xs ys : List ℕ) → prep
     ≡ prepend_known (xs ++ ys) known
 prepend_known_more None xs ys = refl
 prepend_known_more (Some known) xs ys = ap Some (sym (append_assoc xs ys known))
+
+-- more bytes were taken
+pub took_more : (port : InPort) (xs ys all : List ℕ) (a b c : DeskView) → TookFront port xs a b → TookFront port ys b c
+    → all ≡ xs ++ ys → TookFront port all a c
+took_more port xs ys all a b c p q are = record {
+  front = p.front ∙ ap (prepend_known xs) q.front ∙ prepend_known_more (c.left port) xs ys
+      ∙ ap (λ (l : List ℕ). prepend_known l (c.left port)) (sym are);
+}

@@ -2,19 +2,19 @@
 ghost use Rattle.std.specs.Prelude.{◌≡◌, ◌<◌, ◌≤◌, ◌+◌, ◌^◌, ◌++◌, [], length, take, drop, min};
 
 /// Copies what stands in `from` after its first `taken` bytes, as much as fits
-/// into `buf`, and says how many bytes these were.
-pub fn copy_front(from: &[u8], taken: usize, buf: &mut [u8]) -> usize
+/// into `buf` and `most` bytes at the most, and says how many bytes these were.
+pub fn copy_front(from: &[u8], taken: usize, most: usize, buf: &mut [u8]) -> usize
     ensures bound { result ≤ length buf.new }
     ensures fits { taken + result < 2 ^ 64 }
     ensures copied { drop taken from.now ≡ take result buf.new ++ drop (taken + result) from.now }
-    ensures all { result ≡ min (length (drop taken from.now)) (length buf.old) }
-    ensures none { result ≡ 0 → 0 < length buf.old → drop taken from.now ≡ [] }
+    ensures all { result ≡ min (length (drop taken from.now)) (min (length buf.old) most) }
+    ensures none { result ≡ 0 → 0 < length buf.old → 0 < most → drop taken from.now ≡ [] }
 {
     if taken >= from.len() {
         return 0;
     }
     let rest = &from[taken..];
-    let count = rest.len().min(buf.len());
+    let count = rest.len().min(buf.len()).min(most);
     buf[..count].copy_from_slice(&rest[..count]);
     count
 }

@@ -22,7 +22,7 @@ fn line_len(piece: &[u8]) -> usize
 }
 
 /// Where the bytes that wait have the end of their first line.
-#[derive(Clone, Copy, Debug, PartialEq, Eq)]
+#[derive(Clone, Copy)]
 pub enum LineEnd {
     /// There is no further line.
     NoLine,

@@ -82,6 +82,16 @@ impl<T> PerInPort<T> {
     }
 }
 
+impl<T: Drop> PerInPort<T> {
+    /// Sets the port's value.
+    pub fn set(&mut self, port: InPort, value: T)
+        ensures set { at_in_port self.new port ≡ value }
+        ensures others { (p : InPort) → p ≢ port → at_in_port self.new p ≡ at_in_port self.old p }
+    {
+        let _ = self.replace(port, value);
+    }
+}
+
 /// A value for each port that is written.
 #[derive(Drop)]
 pub struct PerOutPort<T> {
@@ -150,5 +160,16 @@ impl<T> PerOutPort<T> {
             OutPort::Out => mem::replace(&mut self.out, value),
             OutPort::Err => mem::replace(&mut self.err, value),
         }
+    }
+}
+
+impl<T: Drop> PerOutPort<T> {
+    /// Sets the port's value.
+    pub fn set(&mut self, port: OutPort, value: T)
+        ensures set { at_out_port self.new port ≡ value }
+        ensures others { (p : OutPort) → p ≢ port → at_out_port self.new p
+            ≡ at_out_port self.old p }
+    {
+        let _ = self.replace(port, value);
     }
 }
