@@ -1,5 +1,5 @@
 //! One value for each port.
-ghost use Rattle.std.specs.Prelude.{◌≡◌, ◌≢◌, None};
+ghost use Rattle.std.specs.Prelude.{◌≡◌, ◌≢◌};
 ghost use Rattle.ht_ports.specs.PerPort.{at_in_port, at_out_port};
 ghost use Rattle.ht_ports.specs.declared.ports.InPort.{InPort};
 ghost use Rattle.ht_ports.specs.declared.ports.OutPort.{OutPort};
@@ -8,7 +8,7 @@ use crate::{InPort, OutPort};
 use std::mem;
 
 /// A value for each port that is read.
-#[derive(Drop)]
+#[derive(Default, Drop)]
 pub struct PerInPort<T> {
     pub netlist: T,
     pub tests: T,
@@ -18,35 +18,12 @@ pub struct PerInPort<T> {
     pub extra: T,
 }
 
-impl<T: Copy> PerInPort<T> {
-    /// The same value for each port.
-    pub fn all(value: T) -> Self
-        ensures { (p : InPort) → at_in_port result p ≡ value }
+impl<T: Default> PerInPort<T> {
+    /// The type's default, 0 or `None`, for each port.
+    pub fn empty() -> Self
+        ensures { (p : InPort) → T.is_default (at_in_port result p) }
     {
-        PerInPort {
-            netlist: value,
-            tests: value,
-            report: value,
-            proofs: value,
-            faults: value,
-            extra: value,
-        }
-    }
-}
-
-impl<T> PerInPort<Option<T>> {
-    /// No value for any port.
-    pub fn none() -> Self
-        ensures { (p : InPort) → at_in_port result p ≡ None }
-    {
-        PerInPort {
-            netlist: None,
-            tests: None,
-            report: None,
-            proofs: None,
-            faults: None,
-            extra: None,
-        }
+        PerInPort::default()
     }
 }
 
@@ -93,7 +70,7 @@ impl<T: Drop> PerInPort<T> {
 }
 
 /// A value for each port that is written.
-#[derive(Drop)]
+#[derive(Default, Drop)]
 pub struct PerOutPort<T> {
     pub tests: T,
     pub report: T,
@@ -102,33 +79,12 @@ pub struct PerOutPort<T> {
     pub err: T,
 }
 
-impl<T: Copy> PerOutPort<T> {
-    /// The same value for each port.
-    pub fn all(value: T) -> Self
-        ensures { (p : OutPort) → at_out_port result p ≡ value }
+impl<T: Default> PerOutPort<T> {
+    /// The type's default, 0 or `None`, for each port.
+    pub fn empty() -> Self
+        ensures { (p : OutPort) → T.is_default (at_out_port result p) }
     {
-        PerOutPort {
-            tests: value,
-            report: value,
-            proofs: value,
-            out: value,
-            err: value,
-        }
-    }
-}
-
-impl<T> PerOutPort<Option<T>> {
-    /// No value for any port.
-    pub fn none() -> Self
-        ensures { (p : OutPort) → at_out_port result p ≡ None }
-    {
-        PerOutPort {
-            tests: None,
-            report: None,
-            proofs: None,
-            out: None,
-            err: None,
-        }
+        PerOutPort::default()
     }
 }
 
