@@ -9,6 +9,7 @@ use Rattle.ht_pairs.specs.Pairs.{Pair, pair, IsMember, IsChoice, MayDiffer, lift
 use Rattle.ht_pairs.specs.Included.{Includes, joined_set}
 use Rattle.ht_pairs.proofs.SetLaws.{lifted_set_holds, map_member, member_either, member_left, member_map, set_of_holds}
 use Rattle.ht_net.specs.declared.fault.Fault.{Fault}
+use Rattle.ht_net.specs.Frame.{Rules}
 use Rattle.ht_net.specs.Netlist.{Netlist}
 use Rattle.ht_net.proofs.FaultLaws.{rules_keep}
 use Rattle.ht_net.proofs.RelationLaws.{Preserves, get_related, next_related, outputs_related}
@@ -62,17 +63,17 @@ all_below (s ∷ sets) (o ∷ others) e all =
 
 module _ (c : Netlist) (fault : Fault) (family other : Family) (long : length family ≡ length other)
     (within : IncludesEach other family) where
+  -- what frames with the fault go by
+  abbrev r : Rules (List Pair)
+  r = pair_set_rules (Some fault)
+
   taken_below : (j : ℕ) → Below (get_or (taken_sets c fault family) j []) (get_or (taken_sets c fault other) j [])
-  taken_below j =
-      let r = pair_set_rules (Some fault) in
-      get_related Below (taken_sets c fault family) (taken_sets c fault other) j [] []
+  taken_below j = get_related Below (taken_sets c fault family) (taken_sets c fault other) j [] []
       (next_related Below c r r (sets_monotone (Some fault)) (any_vector c) family (any_vector c) other
       (same_below (any_vector c)) (all_below family other long within)) (λ p i. i)
 
   shown_below : (o : ℕ) → Below (get_or (shown_sets c fault family) o []) (get_or (shown_sets c fault other) o [])
-  shown_below o =
-      let r = pair_set_rules (Some fault) in
-      get_related Below (shown_sets c fault family) (shown_sets c fault other) o [] []
+  shown_below o = get_related Below (shown_sets c fault family) (shown_sets c fault other) o [] []
       (outputs_related Below c r r (sets_monotone (Some fault)) (any_vector c) family (any_vector c) other
       (same_below (any_vector c)) (all_below family other long within)) (λ p i. i)
 

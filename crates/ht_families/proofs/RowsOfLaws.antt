@@ -2,41 +2,44 @@
 use Rattle.std.proofs.Common.{◌≡◌, ◌≢◌, ◌<◌, ◌≤◌, ◌+◌, ◌==◌, ℕ, suc, zero, List, [], ◌∷◌, ◌++◌, length, get_or, refl, sym, ◌∙◌, ap, inl, inr, arith, subst, if◌then◌else◌}
 use Rattle.std.specs.List.{All}
 use Rattle.std.proofs.lemmas.Bool.Decides.{eqb_tells}
-use Rattle.std.proofs.lemmas.List.{map-append}
+use Rattle.std.proofs.lemmas.List.{get_or_append_left, get_or_push, length_push, map-append}
 use Rattle.ht_tern.specs.declared.tern.Tern.{Tern}
 use Rattle.ht_tern.specs.declared.tern.Tern.TheVariants.{Unk}
 use Rattle.std.proofs.lemmas.List.Elements.{All-append, All-cons, All-nil}
 use Rattle.ht_pairs.specs.Pairs.{Pair, pair, set_of}
+use Rattle.ht_net.proofs.FrameLaws.{le_or_lt}
 use Rattle.ht_tree.specs.Rising.{Rises}
 use Rattle.ht_tree.specs.declared.family_row.FamilyRow.{FamilyRow}
 use Rattle.ht_tree.specs.FamilyRows.{dffs_of, family_of, row_set, start_set}
 use Rattle.ht_families.proofs.RowLaws.{listed}
 
-rises_tail : (x : ℕ) (xs : List ℕ) → Rises (x ∷ xs) → Rises xs
-rises_tail x xs h = record {
+-- a number more, above all others
+rises_more : (xs : List ℕ) (x : ℕ) → Rises xs → ((i : ℕ) → i < length xs → get_or xs i 0 < x) → Rises (xs ++ x ∷ [])
+rises_more xs x h below = record {
   next = λ i l.
-      subst (λ k. get_or xs i 0 < get_or (x ∷ xs) k 0) {y = suc (i + 1)} (omega arith) (h.next (suc i) (omega
-      (arith, l)));
+      let long = length_push xs x in
+      let here : get_or (xs ++ x ∷ []) i 0 ≡ get_or xs i 0 =
+      get_or_append_left xs (x ∷ []) 0 i (omega (arith, l, long)) in
+      elim (le_or_lt (length xs) (i + 1)) [
+        | inl past ↦
+            let last : get_or (xs ++ x ∷ []) (i + 1) 0 ≡ x =
+            get_or_push xs x 0 (i + 1) (omega (arith, l, long, past)) in
+            let less = below i (omega (arith, l, long)) in
+            omega (arith, here, last, less)
+        | inr inside ↦
+            let next : get_or (xs ++ x ∷ []) (i + 1) 0 ≡ get_or xs (i + 1) 0 =
+            get_or_append_left xs (x ∷ []) 0 (i + 1) inside in
+            let less = h.next i inside in
+            omega (arith, here, next, less)
+      ];
 }
 
-rises_at : (k l : ℕ) (rest : List ℕ) → k < l → Rises (l ∷ rest) → (i : ℕ) → i + 1 < length (k ∷ l ∷ rest)
-    → get_or (k ∷ l ∷ rest) i 0 < get_or (k ∷ l ∷ rest) (i + 1) 0
-rises_at k l rest h r zero b = h
-rises_at k l rest h r (suc i) b =
-    subst (λ x. get_or (l ∷ rest) i 0 < get_or (k ∷ l ∷ rest) x 0) {x = suc (i + 1)} (omega arith)
-    (r.next i (omega (arith, b)))
-
--- a row more, above all others
-rises_more : (rows : List FamilyRow) (r : FamilyRow) → Rises (dffs_of rows) → All (λ row. row.dff < r.dff) rows
-    → Rises (dffs_of rows ++ r.dff ∷ [])
-rises_more [] r h all = record { next = λ i l. omega (arith, l) }
-rises_more (p ∷ []) r h all = record {
-  next = rises_at p.dff r.dff [] (all 0 p (omega arith)) (record { next = λ i l. omega (arith, l) });
-}
-rises_more (p ∷ q ∷ rows) r h all = record {
-  next = rises_at p.dff q.dff (dffs_of rows ++ r.dff ∷ []) (h.next 0 (omega arith))
-      (rises_more (q ∷ rows) r (rises_tail p.dff (dffs_of (q ∷ rows)) h) (λ k d l. all (suc k) d (omega (arith, l))));
-}
+dffs_below : (rows : List FamilyRow) (n : ℕ) → All (λ row. row.dff < n) rows → (i : ℕ) → i < length (dffs_of rows)
+    → get_or (dffs_of rows) i 0 < n
+dffs_below [] n all i l = absurd (omega (arith, l))
+dffs_below (r ∷ rows) n all zero l = all 0 r (omega arith)
+dffs_below (r ∷ rows) n all (suc i) l =
+    dffs_below rows n (λ k d m. all (suc k) d (omega (arith, m))) i (omega (arith, l))
 
 no_row : (rows : List FamilyRow) (n k : ℕ) (set : List Pair) → All (λ row. row.dff < n) rows → n ≤ k
     → row_set rows k set ≡ set
@@ -95,7 +98,8 @@ pub pushed : (start : List Tern) (family : List (List Pair)) (rows : List Family
 pushed start family rows j r h at is own = record {
   below = below_all rows r j h.below (omega (arith, at));
   rises = subst Rises (sym (map-append (λ (row : FamilyRow). row.dff) rows (r ∷ [])))
-      (rises_more rows r h.rises (λ k d l. let b = h.below k d l in omega (arith, b, at)));
+      (rises_more (dffs_of rows) r.dff h.rises
+      (λ k l. let b = dffs_below rows j h.below k l in omega (arith, b, at)));
   sets = λ k l. row_last rows r k (start_set start k) ∙ elim (eqb_tells k r.dff) [
     | inl e ↦ rw e.0 (is ∙ ap (λ (i : ℕ). get_or family i []) (sym (e.1 ∙ at)))
     | inr e ↦ let ne = e.1 in rw e.0 (h.sets k (omega (arith, l, ne, at)))

@@ -7,8 +7,7 @@ use Rattle.ht_tree.specs.declared.token.Token.{Token}
 use Rattle.ht_tree.specs.SearchRecords.{Fills, sweep_weight}
 use Rattle.ht_tree.specs.Searches.{Closes, Guide, SpendsAt}
 use Rattle.ht_tree.specs.Walks.{IsComplete, IsOpen, Judge, Node, weight_of}
-use Rattle.ht_forward.proofs.CloseLaws.{complete_weighs}
-use Rattle.ht_forward.proofs.WeightLaws.{least_weight, lengths_few, longest_weighs, weight_push}
+use Rattle.ht_forward.proofs.WeightLaws.{complete_weighs, least_weight, lengths_few, longest_weighs, weight_push}
 use Rattle.ht_forward.specs.Lengths.{CloseEach, IsLengthRecord, SpendEach, left_after}
 
 -- All searches before the one of so many frames are closed, and so much is left of the budget.

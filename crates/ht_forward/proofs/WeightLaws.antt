@@ -1,9 +1,10 @@
--- What the walks of a sweep weigh, and that no budget of a sweep comes to the longest window.
-use Rattle.std.proofs.Common.{◌≡◌, ◌<◌, ◌≤◌, ◌+◌, ◌*◌, ◌++◌, ℕ, suc, zero, List, [], ◌∷◌, length, refl, ap, arith, inl, inr}
+-- What walks weigh, and that no budget comes to the longest window.
+use Rattle.std.proofs.Common.{◌≡◌, ◌≢◌, ◌<◌, ◌≤◌, ◌+◌, ◌*◌, ◌++◌, ℕ, suc, zero, List, [], ◌∷◌, length, refl, ap, arith, inl, inr}
+use Rattle.std.proofs.Math.Nat.{mul-le-mul_right}
 use Rattle.ht_net.proofs.FrameLaws.{le_or_lt}
 use Rattle.ht_tree.specs.declared.token.Token.{Token}
 use Rattle.ht_tree.specs.SearchRecords.{sweep_weight}
-use Rattle.ht_tree.specs.Walks.{weight_of}
+use Rattle.ht_tree.specs.Walks.{IsComplete, Judge, Node, weight_of}
 use Rattle.ht_events.specs.Plans.{max_frames}
 
 pub weight_push : (frames : ℕ) (walks : List (List Token)) (walk : List Token)
@@ -36,3 +37,17 @@ lengths_few k weight h light = elim (le_or_lt max_frames k) [
   | inl long ↦ let more = least_more max_frames k long in absurd (omega (arith, more, h, light))
   | inr short ↦ short
 ]
+
+-- a complete walk has a token, so it weighs at least the frames of its window
+node_left : (n : Node) (rest : List Node) → n ∷ rest ≢ []
+node_left n rest e = cc
+
+complete_some : (j : Judge) (tokens : List Token) → IsComplete j tokens → 0 < length tokens
+complete_some j [] h = absurd (node_left _ _ h.finished)
+complete_some j (t ∷ tokens) h = omega arith
+
+pub complete_weighs : (j : Judge) (frames : ℕ) (walk : List Token) → IsComplete j walk → frames ≤ weight_of frames walk
+complete_weighs j frames walk h =
+    let times = mul-le-mul_right frames (complete_some j walk h) in
+    let one : suc zero * frames ≡ frames = omega arith in
+    omega (arith, times, one)

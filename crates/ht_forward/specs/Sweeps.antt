@@ -6,37 +6,31 @@ use Rattle.ht_net.specs.Netlist.{Netlist}
 use Rattle.ht_net.specs.Rows.{Rows}
 use Rattle.ht_net.specs.Detection.{Detects}
 use Rattle.ht_tree.specs.declared.token.Token.{Token}
-use Rattle.ht_tree.specs.Walks.{weight_of}
+use Rattle.ht_tree.specs.Searches.{Guide, guide_of}
 use Rattle.ht_tree.specs.Windows.{SearchWindow, Start, unknown}
-use Rattle.ht_tree.specs.SearchRecords.{IsSweepRecord, sweep_weight}
+use Rattle.ht_tree.specs.SearchRecords.{IsSweepRecord}
 use Rattle.ht_events.specs.Plans.{max_frames}
 use Rattle.ht_forward.specs.declared.sweeping.Swept.{Swept}
 use Rattle.ht_forward.specs.declared.sweeping.Swept.TheVariants.{Found, Spent}
-use Rattle.ht_forward.specs.AheadSearches.{ClosesAhead, FindsList, IsListAhead, IsListWithin, SpendsAhead}
+use Rattle.ht_forward.specs.Lengths.{CloseEach, left_after, next_length}
+use Rattle.ht_forward.specs.AheadSearches.{FindsList, IsListAhead, IsListWithin, SpendsAhead}
 
 -- The window of a sweep from a start, of so many frames.
 abbrev pub window_of : Netlist → Fault → Start → ℕ → SearchWindow
 window_of c fault start frames = record { circuit = c; fault = Some fault; frames = frames; start = start }
 
--- The windows of so many frames, one frame more and so on are closed, each with the budget that those before it left.
-abbrev pub CloseEach : Netlist → Fault → Start → ℕ → ℕ → List (List Token) → Type 0
-CloseEach c fault start budget frames [] = Unit {0}
-CloseEach c fault start budget frames (walk ∷ walks) =
-    ClosesAhead (window_of c fault start frames) budget walk
-    × CloseEach c fault start (budget - weight_of frames walk) (frames + 1) walks
+-- What the search of the window of so many frames goes by.
+abbrev pub sweep_guide : Netlist → Fault → Start → ℕ → Guide
+sweep_guide c fault start frames = guide_of (window_of c fault start frames)
 
 -- The window after those that are closed.
 abbrev pub next_window : Netlist → Fault → Start → List (List Token) → SearchWindow
-next_window c fault start closed = window_of c fault start (length closed + 1)
-
--- What windows that are closed left of the budget.
-abbrev pub left_after : ℕ → List (List Token) → ℕ
-left_after budget closed = budget - sweep_weight 1 closed
+next_window c fault start closed = window_of c fault start (next_length closed)
 
 -- A sweep that finds a list: in the window after some that are closed.
 pub record SweepFinds (c : Netlist) (fault : Fault) (start : Start) (budget : ℕ) (list : Rows) : Type 0 where
   pub closed : List (List Token)
-  pub closes : CloseEach c fault start budget 1 closed
+  pub closes : CloseEach (sweep_guide c fault start) budget 1 closed
   pub finds : FindsList (next_window c fault start closed) (left_after budget closed) list
 
 -- A sweep that spends its budget: its walks are those of some windows that are closed, and of the window after them.
@@ -45,7 +39,7 @@ pub record SweepSpends (c : Netlist) (fault : Fault) (start : Start) (budget : �
   pub closed : List (List Token)
   pub last : List Token
   pub all : walks ≡ closed ++ last ∷ []
-  pub closes : CloseEach c fault start budget 1 closed
+  pub closes : CloseEach (sweep_guide c fault start) budget 1 closed
   pub spends : SpendsAhead (next_window c fault start closed) (left_after budget closed) last
 
 -- The searches that lead to each answer of a sweep from a start.

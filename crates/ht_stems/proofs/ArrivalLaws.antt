@@ -1,6 +1,7 @@
 -- What a frame shows with a net forced, by where its effect ends.
 use Rattle.std.proofs.Common.{◌≡◌, ◌<◌, ◌+◌, ◌∙◌, ℕ, List, None, get_or, refl, sym, ap, arith}
 use Rattle.ht_tern.specs.declared.tern.Tern.{Tern}
+use Rattle.ht_net.specs.declared.net.NetId.{NetId}
 use Rattle.ht_net.specs.Netlist.{Netlist, first_gate_net, net_count, gate_at, no_net, IsCircuit}
 use Rattle.ht_net.specs.Frame.{gate_output, net_value}
 use Rattle.ht_net.specs.Faults.{forced, tern_rules}
@@ -12,7 +13,7 @@ use Rattle.ht_stems.specs.ForcedNets.{net_forced, with_net_value}
 use Rattle.ht_stems.specs.LoadsOfNets.{HasLoads}
 use Rattle.ht_stems.specs.Arrivals.{Arrives, unchanged, unread, at_latch, at_output, at_stem, through_gate}
 use Rattle.ht_stems.specs.ArrivedFrames.{AreGoodValues, ShowSame, ShowsArrival}
-use Rattle.ht_stems.proofs.ReadLaws.{read_at, only_gate, gate_not_data, gate_not_output, data_pin_no_gate, data_pin_not_output, data_pin_only, output_no_gate, output_not_data, output_only, unread_no_gate, unread_not_data, unread_not_output}
+use Rattle.ht_stems.proofs.ReadLaws.{read_at, only_gate, gate_not_data, gate_not_output, data_pin_alone, output_alone, unread_no_gate, unread_not_data, unread_not_output}
 use Rattle.ht_stems.proofs.ForcedLaws.{own_same, unread_same, through_same, forced_value, with_same}
 use Rattle.ht_stems.proofs.FrameShows.{outputs_same, outputs_but, next_same, next_but, show_same}
 
@@ -42,33 +43,34 @@ module _ (c : Netlist) (circuit : IsCircuit c) (vector latches : List Tern) wher
             (λ j l. same _ (circuit.data_known j l) (unread_not_data c x none j l));
       }
 
+  -- the place at which the forced net stands has the value
+  forced_there : (x : ℕ) (v : Tern) (nets : List NetId) (j : ℕ) → x < net_count c → (get_or nets j no_net).0 ≡ x
+      → net_value c (net_forced (tern_rules None) x v) vector latches (get_or nets j no_net).0 ≡ v
+  forced_there x v nets j known is = ap (net_value c (net_forced (tern_rules None) x v) vector latches) is
+      ∙ forced_value c circuit vector latches (tern_rules None) x v known
+
   pub latch_shows : (x j : ℕ) (v : Tern) → x < net_count c → HasLoads c x (OneDataPin j)
       → ShowsArrival c (net_forced (tern_rules None) x v) vector latches (AtLatch j v)
   latch_shows x j v known loads =
-      let same = unread_same c circuit vector latches (tern_rules None) x v (data_pin_no_gate c x j loads) in
-      let here : net_value c (net_forced (tern_rules None) x v) vector latches (get_or c.dffs j no_net).0 ≡ v =
-      ap (net_value c (net_forced (tern_rules None) x v) vector latches) loads.2
-      ∙ forced_value c circuit vector latches (tern_rules None) x v known in
+      let same = unread_same c circuit vector latches (tern_rules None) x v (data_pin_alone c x j loads).unread in
       record {
         outputs = outputs_same c (net_forced (tern_rules None) x v) (tern_rules None) vector latches
-            (λ o l. same _ (circuit.outputs_known o l) (data_pin_not_output c x j loads o l));
+            (λ o l. same _ (circuit.outputs_known o l) ((data_pin_alone c x j loads).elsewhere o l));
         next = next_but c (net_forced (tern_rules None) x v) (tern_rules None) vector latches j v loads.1
-            (sym (good_data_pin j _ ∙ here)) (λ i w ne. refl)
-            (λ k l ne. same _ (circuit.data_known k l) (data_pin_only c x j loads k l ne));
+            (sym (good_data_pin j _ ∙ forced_there x v c.dffs j known loads.2)) (λ i w ne. refl)
+            (λ k l ne. same _ (circuit.data_known k l) ((data_pin_alone c x j loads).only k l ne));
       }
 
   pub output_shows : (x o : ℕ) (v : Tern) → x < net_count c → HasLoads c x (OneOutput o)
       → ShowsArrival c (net_forced (tern_rules None) x v) vector latches (AtOutput o v)
   output_shows x o v known loads =
-      let same = unread_same c circuit vector latches (tern_rules None) x v (output_no_gate c x o loads) in
-      let here : net_value c (net_forced (tern_rules None) x v) vector latches (get_or c.outputs o no_net).0 ≡ v =
-      ap (net_value c (net_forced (tern_rules None) x v) vector latches) loads.2
-      ∙ forced_value c circuit vector latches (tern_rules None) x v known in
+      let same = unread_same c circuit vector latches (tern_rules None) x v (output_alone c x o loads).unread in
       record {
-        outputs = outputs_but c (net_forced (tern_rules None) x v) (tern_rules None) vector latches o v loads.1 here
-            (λ k l ne. same _ (circuit.outputs_known k l) (output_only c x o loads k l ne));
+        outputs = outputs_but c (net_forced (tern_rules None) x v) (tern_rules None) vector latches o v loads.1
+            (forced_there x v c.outputs o known loads.2)
+            (λ k l ne. same _ (circuit.outputs_known k l) ((output_alone c x o loads).only k l ne));
         next = next_same c (net_forced (tern_rules None) x v) (tern_rules None) vector latches (λ i w. refl)
-            (λ j l. same _ (circuit.data_known j l) (output_not_data c x o loads j l));
+            (λ j l. same _ (circuit.data_known j l) ((output_alone c x o loads).elsewhere j l));
       }
 
   module _ (good : ℕ → Tern) (are : AreGoodValues c vector latches good) where

@@ -12,7 +12,12 @@ use Rattle.ht_net.specs.Levels.{times}
 use Rattle.ht_net.proofs.FrameLaws.{le_or_lt}
 use Rattle.ht_stems.specs.declared.net_loads.NetLoads.{NetLoads}
 use Rattle.ht_stems.specs.declared.net_loads.NetLoads.TheVariants.{NoLoad, OneGate, OneDataPin, OneOutput, Several}
-use Rattle.ht_stems.specs.LoadsOfNets.{CountsAs, HasLoads, with_load}
+use Rattle.ht_stems.specs.LoadsOfNets.{CountsAs, CountsMore, HasEntries, HasLoads, with_load}
+
+-- a table of as many entries
+pub entries_left : {c : Netlist} {old table : List NetLoads} → HasEntries c old → length table ≡ length old
+    → HasEntries c table
+entries_left was long = record { circuit = was.circuit; count = omega (arith, was.count, long) }
 
 -- one load more
 one_more : (c : Netlist) (x n : ℕ) (loads load : NetLoads) → CountsAs c x n loads → CountsAs c x 1 load
@@ -27,7 +32,7 @@ one_more c x n (OneOutput o) load some one = omega (arith, some.0)
 one_more c x n Several load some one = omega (arith, some)
 
 -- The next net of a list has one load more.
-pub load_added : (c : Netlist) (n : ℕ → ℕ) (table : List NetLoads) (nets : List NetId) (i y : ℕ) (load : NetLoads)
+load_added : (c : Netlist) (n : ℕ → ℕ) (table : List NetLoads) (nets : List NetId) (i y : ℕ) (load : NetLoads)
     → i < length nets → (get_or nets i no_net).0 ≡ y → y < length table → CountsAs c y 1 load
     → ((x : ℕ) → CountsAs c x (n x + times x (take i nets)) (get_or table x NoLoad))
     → (x : ℕ) → CountsAs c x (n x + times x (take (i + 1) nets))
@@ -61,32 +66,25 @@ load_added c n table nets i y load inside is known one before x = elim (eqb_tell
 ]
 
 -- nothing is counted of no list
-pub counted_none : (c : Netlist) (n : ℕ → ℕ) (table : List NetLoads) (nets : List NetId)
-    → ((x : ℕ) → CountsAs c x (n x) (get_or table x NoLoad))
-    → (x : ℕ) → CountsAs c x (n x + times x (take 0 nets)) (get_or table x NoLoad)
-counted_none c n table nets before x =
+pub counted_none : (c : Netlist) (table : List NetLoads) (nets : List NetId) → CountsMore c table table (take 0 nets)
+counted_none c table nets n before x =
     let P : ℕ → Type 0 = λ m. CountsAs c x m (get_or table x NoLoad) in
     let same : n x ≡ n x + 0 = omega arith in
     subst P same (before x)
 
 -- all of a list is counted, under another name of it
-pub counted_all : (c : Netlist) (n : ℕ → ℕ) (table : List NetLoads) (nets all : List NetId) (k : ℕ)
-    → length nets ≤ k → nets ≡ all
-    → ((x : ℕ) → CountsAs c x (n x + times x (take k nets)) (get_or table x NoLoad))
-    → (x : ℕ) → CountsAs c x (n x + times x all) (get_or table x NoLoad)
-counted_all c n table nets all k past is counted x =
-    let P : List NetId → Type 0 = λ l. CountsAs c x (n x + times x l) (get_or table x NoLoad) in
-    subst P (take_all k nets past ∙ is) (counted x)
+pub counted_all : (c : Netlist) (old table : List NetLoads) (nets all : List NetId) (k : ℕ) → length nets ≤ k
+    → nets ≡ all → CountsMore c old table (take k nets) → CountsMore c old table all
+counted_all c old table nets all k past is = subst (CountsMore c old table) (take_all k nets past ∙ is)
 
--- the same where the next net is counted in a table that was written
-pub load_written : (c : Netlist) (n : ℕ → ℕ) (table new : List NetLoads) (nets : List NetId) (i y : ℕ)
-    (load : NetLoads) → new ≡ set table y (with_load (get_or table y NoLoad) load)
-    → i < length nets → (get_or nets i no_net).0 ≡ y → y < length table → CountsAs c y 1 load
-    → ((x : ℕ) → CountsAs c x (n x + times x (take i nets)) (get_or table x NoLoad))
-    → (x : ℕ) → CountsAs c x (n x + times x (take (i + 1) nets)) (get_or new x NoLoad)
-load_written c n table new nets i y load written inside is known one before x =
+-- One more net of a list is counted, in a table that was written.
+pub counted_more : (c : Netlist) (old table new : List NetLoads) (nets : List NetId) (i : ℕ) (net : NetId)
+    (load : NetLoads) → new ≡ set table net.0 (with_load (get_or table net.0 NoLoad) load) → i < length nets
+    → (get_or nets i no_net).0 ≡ net.0 → net.0 < length table → CountsAs c net.0 1 load
+    → CountsMore c old table (take i nets) → CountsMore c old new (take (i + 1) nets)
+counted_more c old table new nets i net load written inside is known one before n h x =
     let P : List NetLoads → Type 0 = λ t. CountsAs c x (n x + times x (take (i + 1) nets)) (get_or t x NoLoad) in
-    subst P (sym written) (load_added c n table nets i y load inside is known one before x)
+    subst P (sym written) (load_added c n table nets i net.0 load inside is known one (before n h) x)
 
 -- The pins of one more gate are counted.
 pub gate_counted : (c : Netlist) (table : List NetLoads) (g : ℕ) → g < length c.gates
@@ -104,15 +102,6 @@ gates_counted c table k past counted x =
     let P : List Gate → Type 0 = λ l. CountsAs c x (sum_by (λ (h : Gate). times x h.args) l) (get_or table x NoLoad) in
     subst P (take_all k c.gates past) (counted x)
 
--- a table that is made of no load
-pub none_yet : (n x : ℕ) → get_or (replicate n NoLoad) x NoLoad ≡ NoLoad
-none_yet n x = elim (le_or_lt n x) [
-  | inl past ↦
-      let long = length-replicate n NoLoad in
-      get_or_past (replicate n NoLoad) x NoLoad (omega (arith, long, past))
-  | inr inside ↦ get_or-replicate n x NoLoad NoLoad inside
-]
-
 -- where nothing is counted yet
 pub none_counted : (c : Netlist) (table : List NetLoads) → ((x : ℕ) → get_or table x NoLoad ≡ NoLoad)
     → (x : ℕ) → CountsAs c x 0 (get_or table x NoLoad)
@@ -124,10 +113,7 @@ none_counted c table none x =
 -- Where the pins, the data pins and the outputs are counted, all loads are.
 pub all_counted : (c : Netlist) (first second third : List NetLoads)
     → ((x : ℕ) → CountsAs c x (sum_by (λ (g : Gate). times x g.args) c.gates) (get_or first x NoLoad))
-    → ((n : ℕ → ℕ) → ((x : ℕ) → CountsAs c x (n x) (get_or first x NoLoad))
-    → (x : ℕ) → CountsAs c x (n x + times x c.dffs) (get_or second x NoLoad))
-    → ((n : ℕ → ℕ) → ((x : ℕ) → CountsAs c x (n x) (get_or second x NoLoad))
-    → (x : ℕ) → CountsAs c x (n x + times x c.outputs) (get_or third x NoLoad))
+    → CountsMore c first second c.dffs → CountsMore c second third c.outputs
     → (x : ℕ) → HasLoads c x (get_or third x NoLoad)
 all_counted c first second third gates latches outputs x =
     let pins : ℕ → ℕ = λ y. sum_by (λ (g : Gate). times y g.args) c.gates in

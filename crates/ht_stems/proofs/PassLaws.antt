@@ -28,16 +28,16 @@ put_back values x y z v at back =
     ∙ (ap (λ (n : ℕ). set (set values x v) n own) back ∙ (set-set values x v own ∙ set-get_or values x Zero))
 
 -- a value that a test denies
-pub not_value : {good v : Tern} → (r : Bool) → (IsTrue r ↔ (good ≡ v)) → r ≡ false → v ≢ good
-not_value r told denied e = let yes : r ≡ true = told.1 (sym e) in cc
+pub not_value : {good v : Tern} {r : Bool} → (IsTrue r ↔ (good ≡ v)) → r ≡ false → v ≢ good
+not_value {r = r} told denied e = let yes : r ≡ true = told.1 (sym e) in cc
 
 pub not_told : {P : Type 0} → (r : Bool) → (IsTrue r ↔ P) → r ≡ false → ¬ P
 not_told r told denied p = let yes : r ≡ true = told.1 p in cc
 
 -- the loads of a net, by its entry
-pub entry_loads : (c : Netlist) (loads : List NetLoads) (x i : ℕ) (entry : NetLoads) → AreLoads c loads
+pub entry_loads : {c : Netlist} {loads : List NetLoads} {x i : ℕ} {entry : NetLoads} → AreLoads c loads
     → x < net_count c → i ≡ x → get_or loads i NoLoad ≡ entry → HasLoads c x entry
-entry_loads c loads x i entry are known at is =
+entry_loads {c} {loads} {x} are known at is =
     subst (HasLoads c x) (ap (λ (n : ℕ). get_or loads n NoLoad) (sym at) ∙ is) (are.each x known)
 
 -- An effect goes on through the one gate that reads the net.
@@ -86,7 +86,7 @@ pub ends_later : (c : Netlist) (good : ℕ → Tern) (loads : List NetLoads) (ta
 ends_later c good loads table order k ordered are inside done g is =
     let x : ℕ = first_gate_net c + get_or order k 0 in
     let within = ordered.each.within k inside in
-    let reads : HasLoads c x (OneGate g) = entry_loads c loads x x (OneGate g) are (omega (arith, within)) refl is in
+    let reads : HasLoads c x (OneGate g) = entry_loads are (omega (arith, within)) refl is in
     let pin = read_at x (gate_at c g).args reads.2 in
     let later = later_gate c order ordered k g pin.0 inside reads.1 pin.1 pin.2 in
     ends_moved c good table (get_or order later.0 0) g later.3 (done later.0 later.1 later.2)

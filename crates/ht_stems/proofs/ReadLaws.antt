@@ -110,35 +110,28 @@ gate_not_output c x g (one, known, reads) =
     let part = pins_some c x g known in
     none_among x c.outputs (omega (arith, one, part, reads))
 
-pub data_pin_no_gate : (c : Netlist) (x j : ℕ) → HasLoads c x (OneDataPin j) → IsUnreadByGates c x
-data_pin_no_gate c x j (one, known, is) =
-    let some = times_some x j c.dffs known is in
-    no_pins c x (omega (arith, one, some))
+-- Net x stands at place j of a list, and nothing else reads it: no pin of a gate, and no other place of this list or of
+-- the others.
+pub record IsAlone (c : Netlist) (x j : ℕ) (nets others : List NetId) : Type 0 where
+  pub unread : IsUnreadByGates c x
+  pub elsewhere : IsNotAmong x others
+  pub only : (k : ℕ) → k < length nets → k ≢ j → (get_or nets k no_net).0 ≢ x
 
-pub data_pin_not_output : (c : Netlist) (x j : ℕ) → HasLoads c x (OneDataPin j) → IsNotAmong x c.outputs
-data_pin_not_output c x j (one, known, is) =
-    let some = times_some x j c.dffs known is in
-    none_among x c.outputs (omega (arith, one, some))
+alone : (c : Netlist) (x j : ℕ) (nets others : List NetId) → pins_at c x + times x nets + times x others ≡ 1
+    → j < length nets → (get_or nets j no_net).0 ≡ x → IsAlone c x j nets others
+alone c x j nets others one known is =
+    let some = times_some x j nets known is in
+    record {
+      unread = no_pins c x (omega (arith, one, some));
+      elsewhere = none_among x others (omega (arith, one, some));
+      only = λ k inside ne at. ne (same_place x k j nets inside known at is (omega (arith, one)));
+    }
 
-pub data_pin_only : (c : Netlist) (x j : ℕ) → HasLoads c x (OneDataPin j)
-    → (k : ℕ) → k < length c.dffs → k ≢ j → (get_or c.dffs k no_net).0 ≢ x
-data_pin_only c x j (one, known, is) k inside ne at = ne
-    (same_place x k j c.dffs inside known at is (omega (arith, one)))
+pub data_pin_alone : (c : Netlist) (x j : ℕ) → HasLoads c x (OneDataPin j) → IsAlone c x j c.dffs c.outputs
+data_pin_alone c x j (one, known, is) = alone c x j c.dffs c.outputs (omega (arith, one)) known is
 
-pub output_no_gate : (c : Netlist) (x o : ℕ) → HasLoads c x (OneOutput o) → IsUnreadByGates c x
-output_no_gate c x o (one, known, is) =
-    let some = times_some x o c.outputs known is in
-    no_pins c x (omega (arith, one, some))
-
-pub output_not_data : (c : Netlist) (x o : ℕ) → HasLoads c x (OneOutput o) → IsNotAmong x c.dffs
-output_not_data c x o (one, known, is) =
-    let some = times_some x o c.outputs known is in
-    none_among x c.dffs (omega (arith, one, some))
-
-pub output_only : (c : Netlist) (x o : ℕ) → HasLoads c x (OneOutput o)
-    → (k : ℕ) → k < length c.outputs → k ≢ o → (get_or c.outputs k no_net).0 ≢ x
-output_only c x o (one, known, is) k inside ne at = ne
-    (same_place x k o c.outputs inside known at is (omega (arith, one)))
+pub output_alone : (c : Netlist) (x o : ℕ) → HasLoads c x (OneOutput o) → IsAlone c x o c.outputs c.dffs
+output_alone c x o (one, known, is) = alone c x o c.outputs c.dffs (omega (arith, one)) known is
 
 pub unread_no_gate : (c : Netlist) (x : ℕ) → HasLoads c x NoLoad → IsUnreadByGates c x
 unread_no_gate c x none = no_pins c x (omega (arith, none))

@@ -12,7 +12,7 @@ use Rattle.ht_stems.specs.declared.net_loads.NetLoads.TheVariants.{NoLoad, OneGa
 use Rattle.ht_stems.specs.ForcedNets.{with_net_value}
 use Rattle.ht_stems.specs.LoadsOfNets.{HasLoads}
 use Rattle.ht_stems.specs.Arrivals.{Arrives, unchanged, unread, at_latch, at_output, at_stem, through_gate}
-use Rattle.ht_stems.proofs.ReadLaws.{read_at, only_gate, gate_not_data, gate_not_output, data_pin_not_output, data_pin_only, output_only}
+use Rattle.ht_stems.proofs.ReadLaws.{read_at, only_gate, gate_not_data, gate_not_output, data_pin_alone, output_alone}
 
 -- A net has its loads in one way.
 one_gate : (c : Netlist) (x g h : ℕ) → HasLoads c x (OneGate g) → HasLoads c x (OneGate h) → g ≡ h
@@ -23,13 +23,13 @@ one_gate c x g h loads (one, known, reads) =
 one_data_pin : (c : Netlist) (x j k : ℕ) → HasLoads c x (OneDataPin j) → HasLoads c x (OneDataPin k) → j ≡ k
 one_data_pin c x j k loads (one, known, is) = elim (eqb_tells k j) [
   | inl p ↦ sym p.1
-  | inr p ↦ absurd (data_pin_only c x j loads k known p.1 is)
+  | inr p ↦ absurd ((data_pin_alone c x j loads).only k known p.1 is)
 ]
 
 one_output : (c : Netlist) (x o k : ℕ) → HasLoads c x (OneOutput o) → HasLoads c x (OneOutput k) → o ≡ k
 one_output c x o k loads (one, known, is) = elim (eqb_tells k o) [
   | inl p ↦ sym p.1
-  | inr p ↦ absurd (output_only c x o loads k known p.1 is)
+  | inr p ↦ absurd ((output_alone c x o loads).only k known p.1 is)
 ]
 
 loads_determined : (c : Netlist) (x : ℕ) (l m : NetLoads) → HasLoads c x l → HasLoads c x m → l ≡ m
@@ -46,11 +46,11 @@ loads_determined c x (OneGate g) Several h k = absurd (omega (arith, h.0, k))
 loads_determined c x (OneDataPin j) NoLoad h k = absurd (omega (arith, h.0, k))
 loads_determined c x (OneDataPin j) (OneGate g) h k = absurd (gate_not_data c x g k j h.1 h.2)
 loads_determined c x (OneDataPin j) (OneDataPin i) h k = ap (λ (n : ℕ). OneDataPin n) (one_data_pin c x j i h k)
-loads_determined c x (OneDataPin j) (OneOutput o) h k = absurd (data_pin_not_output c x j h o k.1 k.2)
+loads_determined c x (OneDataPin j) (OneOutput o) h k = absurd ((data_pin_alone c x j h).elsewhere o k.1 k.2)
 loads_determined c x (OneDataPin j) Several h k = absurd (omega (arith, h.0, k))
 loads_determined c x (OneOutput o) NoLoad h k = absurd (omega (arith, h.0, k))
 loads_determined c x (OneOutput o) (OneGate g) h k = absurd (gate_not_output c x g k o h.1 h.2)
-loads_determined c x (OneOutput o) (OneDataPin j) h k = absurd (data_pin_not_output c x j k o h.1 h.2)
+loads_determined c x (OneOutput o) (OneDataPin j) h k = absurd ((data_pin_alone c x j k).elsewhere o h.1 h.2)
 loads_determined c x (OneOutput o) (OneOutput i) h k = ap (λ (n : ℕ). OneOutput n) (one_output c x o i h k)
 loads_determined c x (OneOutput o) Several h k = absurd (omega (arith, h.0, k))
 loads_determined c x Several NoLoad h k = absurd (omega (arith, h, k))

@@ -1,6 +1,7 @@
 -- What reads a net: nothing, only one pin or output, or more.
-use Rattle.std.specs.Prelude.{◌≡◌, ◌<◌, ℕ, List, length, get_or}
-use Rattle.ht_net.specs.Netlist.{Netlist, gate_at, net_count, no_net}
+use Rattle.std.specs.Prelude.{◌≡◌, ◌<◌, ◌+◌, ℕ, List, length, get_or}
+use Rattle.ht_net.specs.declared.net.NetId.{NetId}
+use Rattle.ht_net.specs.Netlist.{Netlist, IsCircuit, gate_at, net_count, no_net}
 use Rattle.ht_net.specs.Levels.{times, loads_of}
 use Rattle.ht_stems.specs.declared.net_loads.NetLoads.{NetLoads}
 use Rattle.ht_stems.specs.declared.net_loads.NetLoads.TheVariants.{NoLoad, OneGate, OneDataPin, OneOutput, Several}
@@ -17,6 +18,16 @@ CountsAs c x n Several = 1 < n
 -- these are all loads of net x
 abbrev pub HasLoads : Netlist → ℕ → NetLoads → Type 0
 HasLoads c x loads = CountsAs c x (loads_of c x) loads
+
+-- a table has an entry for each net of a circuit
+pub record HasEntries (c : Netlist) (table : List NetLoads) : Type 0 where
+  pub circuit : IsCircuit c
+  pub count : length table ≡ net_count c
+
+-- a table counts what an older one does, and each place of a list of nets besides
+abbrev pub CountsMore : Netlist → List NetLoads → List NetLoads → List NetId → Type 0
+CountsMore c old new nets = (n : ℕ → ℕ) → ((x : ℕ) → CountsAs c x (n x) (get_or old x NoLoad))
+    → (x : ℕ) → CountsAs c x (n x + times x nets) (get_or new x NoLoad)
 
 -- a table has the loads of each net
 pub record AreLoads (c : Netlist) (table : List NetLoads) : Type 0 where

@@ -1,12 +1,12 @@
 //! What reads each net.
-ghost use Rattle.std.specs.Prelude.{◌≡◌, ◌<◌, ◌+◌, ℕ, length, get_or, set, IfOk};
+ghost use Rattle.std.specs.Prelude.{◌≡◌, ◌<◌, ℕ, length, get_or, set, IfOk};
 ghost use Rattle.std.specs.List.{sum_by};
-ghost use Rattle.ht_net.specs.Netlist.{Gate, gate_at, net_count};
+ghost use Rattle.ht_net.specs.Netlist.{Gate, gate_at};
 ghost use Rattle.ht_net.specs.Levels.{times};
 ghost use Rattle.ht_stems.specs.declared.net_loads.NetLoads.TheVariants.{NoLoad};
-ghost use Rattle.ht_stems.specs.LoadsOfNets.{AreLoads, CountsAs, HasLoads, with_load};
+ghost use Rattle.ht_stems.specs.LoadsOfNets.{AreLoads, CountsAs, CountsMore, HasEntries, HasLoads, with_load};
 
-use ht_net::Circuit;
+use ht_net::{Circuit, NetId};
 use std::alloc::{AllocError, Global};
 
 /// The loads of a net: none, only one, or two and more. Gates, flip-flops and outputs count from 0.
@@ -37,30 +37,29 @@ impl NetLoads {
 }
 
 // One more load of a net.
-fn add_load(table: &mut [NetLoads], net: usize, load: NetLoads)
-    requires { net < length table.old }
-    ensures { table.new ≡ set table.old net (with_load (get_or table.old net NoLoad) load) }
+fn add_load(table: &mut [NetLoads], net: NetId, load: NetLoads)
+    requires { net.0 < length table.old }
+    ensures { table.new
+        ≡ set table.old net.0 (with_load (get_or table.old net.0 NoLoad) load) }
 {
-    let loads = table[net];
-    table[net] = loads.with(load);
+    let loads = table[net.index()];
+    table[net.index()] = loads.with(load);
 }
 
 // One more load of each of the nets at the pins of a gate.
 fn add_gate(circuit: &Circuit, table: &mut [NetLoads], gate: u32)
     requires gate { gate < length circuit.now.gates }
-    requires count { length table.old ≡ net_count circuit.now }
-    ensures { (n : ℕ → ℕ) → ((x : ℕ) → CountsAs circuit.now x (n x) (get_or table.old x NoLoad))
-        → (x : ℕ) → CountsAs circuit.now x (n x + times x (gate_at circuit.now gate).args)
-        (get_or table.new x NoLoad) }
+    requires entries { HasEntries circuit.now table.old }
+    ensures { CountsMore circuit.now table.old table.new (gate_at circuit.now gate).args }
 {
     for arg in circuit.gate_args(gate) {
-        add_load(table, arg.index(), NetLoads::OneGate { gate });
+        add_load(table, *arg, NetLoads::OneGate { gate });
     }
 }
 
 // The loads of each net that are pins of gates, where nothing is counted yet.
 fn add_gates(circuit: &Circuit, table: &mut [NetLoads])
-    requires count { length table.old ≡ net_count circuit.now }
+    requires entries { HasEntries circuit.now table.old }
     requires none { (x : ℕ) → get_or table.old x NoLoad ≡ NoLoad }
     ensures { (x : ℕ) → CountsAs circuit.now x
         (sum_by (λ (g : Gate). times x g.args) circuit.now.gates) (get_or table.new x NoLoad) }
@@ -72,37 +71,31 @@ fn add_gates(circuit: &Circuit, table: &mut [NetLoads])
 
 // One more load of the net at the data pin of each flip-flop.
 fn add_latches(circuit: &Circuit, table: &mut [NetLoads])
-    requires { length table.old ≡ net_count circuit.now }
-    ensures { (n : ℕ → ℕ) → ((x : ℕ) → CountsAs circuit.now x (n x) (get_or table.old x NoLoad))
-        → (x : ℕ) → CountsAs circuit.now x (n x + times x circuit.now.dffs)
-        (get_or table.new x NoLoad) }
+    requires { HasEntries circuit.now table.old }
+    ensures { CountsMore circuit.now table.old table.new circuit.now.dffs }
 {
-    // for the proof: the circuit is well formed
-    let _ = circuit.nets();
     for dff in 0..circuit.dffs() {
-        let net = circuit.dff_data(dff).index();
-        add_load(table, net, NetLoads::OneDataPin { dff });
+        add_load(table, circuit.dff_data(dff), NetLoads::OneDataPin { dff });
     }
 }
 
 // One more load of the net of each output.
 fn add_outputs(circuit: &Circuit, table: &mut [NetLoads])
-    requires { length table.old ≡ net_count circuit.now }
-    ensures { (n : ℕ → ℕ) → ((x : ℕ) → CountsAs circuit.now x (n x) (get_or table.old x NoLoad))
-        → (x : ℕ) → CountsAs circuit.now x (n x + times x circuit.now.outputs)
-        (get_or table.new x NoLoad) }
+    requires { HasEntries circuit.now table.old }
+    ensures { CountsMore circuit.now table.old table.new circuit.now.outputs }
 {
-    // for the proof: the circuit is well formed
-    let _ = circuit.nets();
     for output in 0..circuit.outputs() {
-        let net = circuit.output(output).index();
-        add_load(table, net, NetLoads::OneOutput { output });
+        add_load(
+            table,
+            circuit.output(output),
+            NetLoads::OneOutput { output },
+        );
     }
 }
 
 // All loads of each net, where nothing is counted yet.
 fn add_all(circuit: &Circuit, table: &mut [NetLoads])
-    requires count { length table.old ≡ net_count circuit.now }
+    requires entries { HasEntries circuit.now table.old }
     requires none { (x : ℕ) → get_or table.old x NoLoad ≡ NoLoad }
     ensures { (x : ℕ) → HasLoads circuit.now x (get_or table.new x NoLoad) }
 {

@@ -3,9 +3,10 @@ use Rattle.ht_net.specs.Netlist.{Netlist}
 use Rattle.ht_tree.specs.declared.token.Token.{Token}
 use Rattle.ht_tree.specs.Windows.{IsStart}
 use Rattle.ht_window.specs.Starts.{start_of}
-use Rattle.ht_forward.specs.Sweeps.{SweepSpends, window_of}
+use Rattle.ht_forward.specs.Sweeps.{SweepSpends, sweep_guide, window_of}
 use Rattle.ht_forward.proofs.FoundLaws.{found_within}
-use Rattle.ht_forward.proofs.LengthLaws.{IsSweptTo, frames_few, sweep_closes, sweep_spends}
+use Rattle.ht_forward.proofs.LengthsLaws.{IsClosedTo, frames_few, one_closes}
+use Rattle.ht_forward.proofs.SweepLaws.{sweep_spends}
 use Rattle.ht_forward.proofs.sweeping.search_windows.Goals as goal
 
 pub search_ahead-requires-clause-start : goal.search_ahead-requires-clause-start
@@ -16,8 +17,8 @@ search_ahead-requires-clause-start c =
 
 pub search_ahead-requires-clause-few : goal.search_ahead-requires-clause-few
 search_ahead-requires-clause-few c =
-    frames_few c.args.bases.now.circuit c.args.fault (start_of c.args.start.now) c.args.budget c.lengths.frames
-    c.lengths.left c.lengths.walks.items c.lengths.invariant.1 c.requires.budget
+    frames_few (sweep_guide c.args.bases.now.circuit c.args.fault (start_of c.args.start.now)) c.args.budget
+    c.lengths.frames c.lengths.left c.lengths.walks.items c.lengths.invariant.1 c.requires.budget
 
 pub returns-in-Found-clause-short : goal.returns-in-Found-clause-short
 returns-in-Found-clause-short c =
@@ -25,8 +26,8 @@ returns-in-Found-clause-short c =
     let start = start_of c.args.start.now in
     found_within (window_of circuit c.args.fault start c.lengths.frames) c.lengths.left c.in-Found.list
     (rw c.in-Found.is at (rw c.lengths.invariant.0 at c.in_ok-list.ensures.answer)) _
-    (frames_few circuit c.args.fault start c.args.budget c.lengths.frames c.lengths.left c.lengths.walks.items
-    c.lengths.invariant.1 c.requires.budget)
+    (frames_few (sweep_guide circuit c.args.fault start) c.args.budget c.lengths.frames c.lengths.left
+    c.lengths.walks.items c.lengths.invariant.1 c.requires.budget)
 
 pub returns-in-Spent-clause-answer : goal.returns-in-Spent-clause-answer
 returns-in-Spent-clause-answer c =
@@ -39,14 +40,14 @@ returns-in-Spent-clause-answer c =
 
 pub lengths-preserved : goal.lengths-preserved
 lengths-preserved c =
-    let start = start_of c.args.start.now in
+    let guide = sweep_guide c.args.bases.now.circuit c.args.fault (start_of c.args.start.now) in
     let tokens = ap (λ (ts : List Token). length ts * c.lengths.frames) c.as_slice.ensures in
     let closed = rw c.in-Closed.is at (rw c.lengths.invariant.0 at c.in_ok-list.ensures.answer) in (
       c.search_ahead.ensures.circuit ∙ c.lengths.invariant.0,
-      subst (IsSweptTo c.args.bases.now.circuit c.args.fault start c.args.budget (c.lengths.frames + 1)
+      subst (IsClosedTo guide c.args.budget (c.lengths.frames + 1)
           (c.lengths.left - length c.as_slice.result.now * c.lengths.frames)) (sym c.in_ok-push-in-Closed.ensures.items)
-          (sweep_closes c.args.bases.now.circuit c.args.fault start c.args.budget c.lengths.frames c.lengths.left
-          c.lengths.walks.items c.lengths.invariant.1 c.in-Closed.tokens
+          (one_closes guide c.args.budget c.lengths.frames c.lengths.left c.lengths.walks.items
+          c.lengths.invariant.1 c.in-Closed.tokens
           (c.lengths.left - length c.as_slice.result.now * c.lengths.frames) closed
           (ap (λ (n : ℕ). c.lengths.left - n) tokens)),
     )

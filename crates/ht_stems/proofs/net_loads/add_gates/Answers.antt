@@ -2,11 +2,14 @@ use Rattle.std.proofs.Common.{◌<◌, length, take, arith}
 use Rattle.std.specs.List.{sum_by}
 use Rattle.ht_net.specs.Netlist.{Gate}
 use Rattle.ht_net.specs.Levels.{times}
-use Rattle.ht_stems.proofs.CountLaws.{none_counted, gate_counted, gates_counted}
+use Rattle.ht_stems.proofs.CountLaws.{entries_left, none_counted, gate_counted, gates_counted}
 use Rattle.ht_stems.proofs.net_loads.add_gates.Goals as goal
 
 pub loop-gate-init : goal.loop-gate-init
 loop-gate-init c = none_counted c.args.circuit.now c.args.table.now c.requires.none
+
+pub add_gate-requires-clause-entries : goal.add_gate-requires-clause-entries
+add_gate-requires-clause-entries c = entries_left c.requires.entries (omega (arith, c.loop-gate.auto.table))
 
 pub loop-gate-preserved : goal.loop-gate-preserved
 loop-gate-preserved c =

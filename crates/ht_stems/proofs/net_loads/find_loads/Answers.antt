@@ -5,6 +5,12 @@ use Rattle.ht_stems.specs.declared.net_loads.NetLoads.{NetLoads}
 use Rattle.ht_stems.specs.LoadsOfNets.{AreLoads}
 use Rattle.ht_stems.proofs.net_loads.find_loads.Goals as goal
 
+pub add_all-requires-clause-entries : goal.add_all-requires-clause-entries
+add_all-requires-clause-entries c = record {
+  circuit = c.nets.ensures.circuit;
+  count = omega (arith, c.deref_mut.ensures.len, c.in_ok-table.ensures.len, c.nets.ensures.count);
+}
+
 pub returns : goal.returns
 returns c =
     let made : length c.add_all.new.table ≡ net_count c.args.circuit.now =

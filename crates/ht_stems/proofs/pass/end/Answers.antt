@@ -5,7 +5,7 @@ use Rattle.ht_frame.specs.Values.{env_of}
 use Rattle.ht_stems.specs.declared.arrival.Arrival.{Arrival}
 use Rattle.ht_stems.specs.Arrivals.{Arrives, unchanged, unread, at_latch, at_output, at_stem}
 use Rattle.ht_stems.specs.NetEnds.{end_at, no_ends}
-use Rattle.ht_stems.specs.declared.net_loads.NetLoads.TheVariants.{NoLoad, OneGate, OneDataPin, OneOutput, Several}
+use Rattle.ht_stems.specs.declared.net_loads.NetLoads.TheVariants.{NoLoad, OneGate}
 use Rattle.ht_stems.proofs.PassLaws.{entry_loads, ends_through, not_value}
 use Rattle.ht_stems.proofs.pass.end.Goals as goal
 
@@ -15,9 +15,8 @@ returns-then-has_net_value-clause-end c =
 
 pub returns-in-NoLoad-clause-end : goal.returns-in-NoLoad-clause-end
 returns-in-NoLoad-clause-end c =
-    unread c.args.net.0 c.args.value (not_value c.has_net_value.result c.has_net_value.ensures c.if-has_net_value.false)
-    (entry_loads c.args.circuit.now c.args.loads.now c.args.net.0 c.index.result NoLoad c.requires.loads
-    c.requires.net c.index.ensures c.in-NoLoad.is)
+    unread c.args.net.0 c.args.value (not_value c.has_net_value.ensures c.if-has_net_value.false)
+    (entry_loads c.requires.loads c.requires.net c.index.ensures c.in-NoLoad.is)
 
 pub returns-in-OneGate-clause-end : goal.returns-in-OneGate-clause-end
 returns-in-OneGate-clause-end c =
@@ -37,27 +36,23 @@ returns-in-OneGate-clause-end c =
     let P : Arrival → Type 0 = Arrives net good c.args.net.0 c.args.value in
     subst P (sym told)
     (ends_through net good c.args.loads.now c.args.ends.now c.args.net.0 g c.args.value output c.requires.net
-    c.requires.loads (not_value c.has_net_value.result c.has_net_value.ensures c.if-has_net_value.false) entry
+    c.requires.loads (not_value c.has_net_value.ensures c.if-has_net_value.false) entry
     c.requires.after
     c.forced_gate_output-output.ensures.output)
 
 pub returns-in-OneDataPin-clause-end : goal.returns-in-OneDataPin-clause-end
 returns-in-OneDataPin-clause-end c =
     at_latch c.args.net.0 c.args.value c.in-OneDataPin.dff
-    (not_value c.has_net_value.result c.has_net_value.ensures c.if-has_net_value.false)
-    (entry_loads c.args.circuit.now c.args.loads.now c.args.net.0 c.index.result (OneDataPin c.in-OneDataPin.dff)
-    c.requires.loads c.requires.net c.index.ensures c.in-OneDataPin.is)
+    (not_value c.has_net_value.ensures c.if-has_net_value.false)
+    (entry_loads c.requires.loads c.requires.net c.index.ensures c.in-OneDataPin.is)
 
 pub returns-in-OneOutput-clause-end : goal.returns-in-OneOutput-clause-end
 returns-in-OneOutput-clause-end c =
     at_output c.args.net.0 c.args.value c.in-OneOutput.output
-    (not_value c.has_net_value.result c.has_net_value.ensures c.if-has_net_value.false)
-    (entry_loads c.args.circuit.now c.args.loads.now c.args.net.0 c.index.result (OneOutput c.in-OneOutput.output)
-    c.requires.loads c.requires.net c.index.ensures c.in-OneOutput.is)
+    (not_value c.has_net_value.ensures c.if-has_net_value.false)
+    (entry_loads c.requires.loads c.requires.net c.index.ensures c.in-OneOutput.is)
 
 pub returns-in-Several-clause-end : goal.returns-in-Several-clause-end
 returns-in-Several-clause-end c =
-    at_stem c.args.net.0 c.args.value (not_value c.has_net_value.result c.has_net_value.ensures
-    c.if-has_net_value.false)
-    (entry_loads c.args.circuit.now c.args.loads.now c.args.net.0 c.index.result Several
-    c.requires.loads c.requires.net c.index.ensures c.in-Several.is)
+    at_stem c.args.net.0 c.args.value (not_value c.has_net_value.ensures c.if-has_net_value.false)
+    (entry_loads c.requires.loads c.requires.net c.index.ensures c.in-Several.is)
