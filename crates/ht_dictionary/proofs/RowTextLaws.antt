@@ -6,13 +6,8 @@ use Rattle.std.proofs.Common.{◌≡◌, ◌≢◌, ◌⊎◌, ◌∙◌, ℕ, L
 use Rattle.std.proofs.lemmas.Bool.{cases_eq, false≢true, ne_eqb, or_parts}
 use Rattle.ht_tern.specs.declared.tern.Tern.{Tern}
 use Rattle.ht_tern.specs.declared.tern.Tern.TheVariants.{Zero, One, Unk}
-use Rattle.ht_texts.proofs.CodedLaws.{map_injective}
-use Rattle.ht_texts.proofs.VectorLaws.{tern_code_injective}
 use Rattle.ht_texts.specs.StartTexts.{IsStartLine, start_value}
 use Rattle.ht_dictionary.specs.ResponseTexts.{IsRowText, tern_code, row_text}
-
-pub row_text_injective : (a b : List Tern) → row_text a ≡ row_text b → a ≡ b
-row_text_injective = map_injective tern_code tern_code_injective
 
 -- a character is a value's or no value's
 pub value_or_none : (x : ℕ) → ((value : Tern) × (x ≡ tern_code value)) ⊎ ((value : Tern) → x ≢ tern_code value)
