@@ -1,4 +1,4 @@
-use Rattle.std.proofs.Common.{◌≡◌, ◌∙◌, ℕ, None, length, ap, replicate, sym, subst, arith, List}
+use Rattle.std.proofs.Common.{◌∙◌, ℕ, None, length, ap, replicate, sym, subst, arith, List}
 use Rattle.ht_uninit.specs.declared.record.Removed.{Removed}
 use Rattle.ht_uninit.specs.RoundStates.{IsAt}
 use Rattle.ht_uninit.proofs.RoundLaws.{at_again, at_end, at_start, fewer_left}
