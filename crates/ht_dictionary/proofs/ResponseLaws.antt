@@ -7,14 +7,16 @@ use Rattle.ht_ports.specs.LineRule.{lines_of}
 use Rattle.ht_texts.specs.Tests.{IsTooLong}
 use Rattle.ht_texts.specs.WrongLines.{IsFirst}
 use Rattle.ht_texts.proofs.CodedLaws.{map_injective}
+use Rattle.ht_texts.proofs.VectorLaws.{tern_code_injective}
 use Rattle.ht_texts.proofs.StopLaws.{AreCodedLines, coded_at, coded_or_stop}
 use Rattle.ht_texts.proofs.WrongLineLaws.{RightOrFirst, first_of_both, short_or_long, short_is_right}
 use Rattle.ht_dictionary.specs.ResponseTexts.{tern_code, row_text, AreFirstRows, IsRowText, IsResponseText, IsNoResponse, IsMissingResponse, IsWrongResponse, IsMalformedResponse}
-use Rattle.ht_dictionary.proofs.RowTextLaws.{row_text_injective, value_or_none}
+use Rattle.ht_dictionary.proofs.RowTextLaws.{value_or_none}
 
 pub one_list : (width vectors : ℕ) (text : List ℕ) (a b : List (List Tern)) → IsResponseText width vectors text a
     → IsResponseText width vectors text b → a ≡ b
-one_list width vectors text a b is_a is_b = map_injective row_text row_text_injective a b (sym is_a.lines ∙ is_b.lines)
+one_list width vectors text a b is_a is_b =
+    map_injective row_text (map_injective tern_code tern_code_injective) a b (sym is_a.lines ∙ is_b.lines)
 
 -- ---- the first line that is wrong, or rows
 

@@ -1,9 +1,10 @@
 //! The text of one row of an observation.
-ghost use Rattle.std.specs.Prelude.{◌≡◌, ◌≢◌, List, IfOk, MatchOption};
+ghost use Rattle.std.specs.Prelude.{List, IfOk, MatchOption};
 ghost use Rattle.ht_tern.specs.declared.tern.Tern.{Tern};
-ghost use Rattle.ht_dictionary.specs.ResponseTexts.{tern_code, IsRowText};
+ghost use Rattle.ht_dictionary.specs.ResponseTexts.{IsRowText};
 
 use ht_tern::Tern;
+use ht_texts::read_start;
 use std::alloc::{AllocError, Global};
 
 /// The row of `width` values whose line this is, without its LF: one character `0`, `1` or `X` (not seen) for each
@@ -17,28 +18,9 @@ pub fn read_row(alloc: Global, line: &[u8], width: u32) -> Result<Option<Vec<Ter
         ((row : List Tern) → ¬ IsRowText width line.now row)
         (λ row. IsRowText width line.now row.items)) }
 {
-    if line.len() != width as usize {
+    // only a start has `x` too
+    if line.contains(&b'x') {
         return Ok(None);
     }
-    let mut row = Vec::with_capacity(alloc, line.len())?;
-    for character in line {
-        let Some(value) = value_of(*character) else {
-            return Ok(None);
-        };
-        row.push(value)?;
-    }
-    Ok(Some(row))
-}
-
-// The value of a character, or `None` where it has none.
-fn value_of(character: u8) -> Option<Tern>
-    ensures { MatchOption result ((value : Tern) → character ≢ tern_code value)
-        (λ value. character ≡ tern_code value) }
-{
-    match character {
-        b'0' => Some(Tern::Zero),
-        b'1' => Some(Tern::One),
-        b'X' => Some(Tern::Unk),
-        _ => None,
-    }
+    read_start(alloc, line, width)
 }

@@ -1,5 +1,6 @@
 -- A group of faulty machines in one frame of a circuit, as contracts see it.
-use Rattle.std.specs.Prelude.{◌<◌, ◌+◌, ◌-◌, ◌/◌, ℕ, List, Bool, All, Some, None, length, get_or}
+use Rattle.std.specs.Prelude.{◌≡◌, ◌<◌, ◌≤◌, ◌+◌, ◌-◌, ◌*◌, ◌/◌, ℕ, List, Bool, All, Some, None, length, get_or}
+use Rattle.std.specs.List.{slice_get}
 use Rattle.ht_tern.specs.declared.tern.Tern.{Tern}
 use Rattle.ht_tern.specs.declared.tern.Tern.TheVariants.{Unk}
 use Rattle.ht_net.specs.declared.fault.Site.{Site}
@@ -66,3 +67,10 @@ max_words = 4
 -- the most faulty machines of a group
 abbrev pub max_machines : ℕ
 max_machines = 256
+
+-- In each lane of word w stands what its machine has, and in a lane without a machine what the good machine has.
+pub record AreInLanes {A : Type 0} (g : GroupView) (w : ℕ) (at : ℕ → A) (faulty : FaultyMachine → A) (good : A)
+    : Type 0 where
+  pub machines : (k : ℕ) (m : FaultyMachine) → k < lane_count
+      → slice_get g.machines (lane_count * w + k) ≡ Some m → at k ≡ faulty m
+  pub others : (k : ℕ) → k < lane_count → length g.machines ≤ lane_count * w + k → at k ≡ good

@@ -2,7 +2,6 @@ pub mod Differences
 pub mod GroupView
 pub mod Overlays
 pub mod OverlayOf
-pub mod GateRows
 pub mod LaneRules
 pub mod StuckTables
 pub mod Pending

@@ -6,7 +6,7 @@ ghost use Rattle.ht_net.specs.Netlist.{first_gate_net, net_count, no_net};
 ghost use Rattle.ht_net.specs.Frame.{gate_output, values_at};
 ghost use Rattle.ht_frame.specs.Values.{env_of};
 ghost use Rattle.ht_group.specs.LaneRules.{lane_env, rules_at};
-ghost use Rattle.ht_group.specs.GateRows.{operation_row};
+ghost use Rattle.ht_pairs.specs.Places.{place_of};
 ghost use Rattle.ht_group.specs.Pending.{AreGiven};
 ghost use Rattle.ht_group.specs.StuckTables.{AreGateLanes, AreStuck, is_pin_number};
 
@@ -22,7 +22,7 @@ pub const PIN_ROOM: usize = 256;
 // wrong every second time.
 #[inline(always)]
 fn operation_row(kind: Kind) -> usize
-    ensures { result ≡ operation_row kind }
+    ensures { result ≡ place_of kind }
 {
     let is_or = (kind == Kind::Or) | (kind == Kind::Nor);
     let is_xor = (kind == Kind::Xor) | (kind == Kind::Xnor);

@@ -1,6 +1,5 @@
 //! A group of faulty machines in one frame.
-ghost use Rattle.std.specs.Prelude.{◌≡◌, ◌<◌, ◌≤◌, ◌+◌, ◌*◌, ◌++◌, ◌∷◌, [], ℕ, Some, true, false, length, get_or, IfOk, OnOk, OnErr};
-ghost use Rattle.std.specs.List.{slice_get};
+ghost use Rattle.std.specs.Prelude.{◌≡◌, ◌<◌, ◌≤◌, ◌*◌, ◌++◌, ◌∷◌, [], ℕ, true, false, length, get_or, IfOk, OnOk, OnErr};
 ghost use Rattle.ht_tern.specs.declared.tern.Tern.TheVariants.{Unk};
 ghost use Rattle.ht_tern.specs.Opposite.{are_opposite};
 ghost use Rattle.ht_net.specs.Netlist.{net_count};
@@ -8,7 +7,7 @@ ghost use Rattle.ht_net.specs.Detection.{terns_of};
 ghost use Rattle.ht_items.specs.Bits.{is_set};
 ghost use Rattle.ht_lanes.specs.Lanes.{lane};
 ghost use Rattle.ht_group.specs.Differences.{with_differences};
-ghost use Rattle.ht_group.specs.GroupView.{AreLatches, FaultyMachine, HasSite, faulty_next, faulty_output, good_next, good_output, lane_count, max_machines, max_words, words_for};
+ghost use Rattle.ht_group.specs.GroupView.{AreInLanes, AreLatches, HasSite, faulty_next, faulty_output, good_next, good_output, max_machines, max_words, words_for};
 ghost use Rattle.ht_group.specs.MachineWords.{AreFirstChanged, HasWordRoom, IsBare, IsRestored};
 ghost use Rattle.ht_group.specs.declared.machines.Machines.{Machines};
 ghost use Rattle.ht_group.specs.GoodFrames.{HasFrameRoom};
@@ -125,6 +124,8 @@ impl<'c> Group<'c> {
         ensures circuit { IfOk result (λ group. group.circuit ≡ circuit.now) }
         ensures none { IfOk result (λ group. group.machines ≡ []) }
     {
+        let pins = vec![in alloc; Word::splat(Tern::Unk); PIN_ROOM]?;
+        let fours = vec![in alloc; [Word::splat(Tern::Unk); 4]; PIN_ROOM]?;
         let frame = SharedFrame::new(alloc, circuit)?;
         let words = new_words(alloc, frame.circuit, &frame.good)?;
         Ok(Group {
@@ -132,8 +133,8 @@ impl<'c> Group<'c> {
             words,
             count: 0,
             settled: true,
-            pins: vec![in alloc; Word::splat(Tern::Unk); PIN_ROOM]?,
-            fours: vec![in alloc; [Word::splat(Tern::Unk); 4]; PIN_ROOM]?,
+            pins,
+            fours,
         })
     }
 
@@ -251,12 +252,8 @@ impl<'c> Group<'c> {
         requires settled { self.now.settled ≡ true }
         requires word { w < words_for (length self.now.machines) }
         requires net { net.0 < net_count self.now.circuit }
-        ensures machines { (k : ℕ) (m : FaultyMachine) → k < lane_count
-            → slice_get self.now.machines (lane_count * w + k) ≡ Some m
-            → lane result k ≡ faulty_value self.now m net.0 }
-        ensures others { (k : ℕ) → k < lane_count
-            → length self.now.machines ≤ lane_count * w + k
-            → lane result k ≡ good_value self.now net.0 }
+        ensures { AreInLanes self.now w (lane result) (λ m. faulty_value self.now m net.0)
+            (good_value self.now net.0) }
     {
         self.words[w as usize].nets.words()[net.index()]
     }
@@ -302,12 +299,8 @@ impl<'c> Group<'c> {
         requires settled { self.now.settled ≡ true }
         requires word { w < words_for (length self.now.machines) }
         requires output { o < length self.now.circuit.outputs }
-        ensures machines { (k : ℕ) (m : FaultyMachine) → k < lane_count
-            → slice_get self.now.machines (lane_count * w + k) ≡ Some m
-            → is_set result k ≡ are_opposite (good_output self.now o) (faulty_output self.now m o) }
-        ensures others { (k : ℕ) → k < lane_count
-            → length self.now.machines ≤ lane_count * w + k
-            → is_set result k ≡ false }
+        ensures { AreInLanes self.now w (is_set result)
+            (λ m. are_opposite (good_output self.now o) (faulty_output self.now m o)) false }
     {
         let net = self.output_net(o);
         self.word(w, net).opposite(self.good_value(net))
@@ -318,12 +311,8 @@ impl<'c> Group<'c> {
         requires settled { self.now.settled ≡ true }
         requires word { w < words_for (length self.now.machines) }
         requires latch { j < length self.now.circuit.dffs }
-        ensures machines { (k : ℕ) (m : FaultyMachine) → k < lane_count
-            → slice_get self.now.machines (lane_count * w + k) ≡ Some m
-            → lane result k ≡ faulty_next self.now m j }
-        ensures others { (k : ℕ) → k < lane_count
-            → length self.now.machines ≤ lane_count * w + k
-            → lane result k ≡ good_next self.now j }
+        ensures { AreInLanes self.now w (lane result) (λ m. faulty_next self.now m j)
+            (good_next self.now j) }
     {
         let word = self.word(w, self.data_net(j));
         self.words[w as usize]

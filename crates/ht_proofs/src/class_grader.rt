@@ -123,8 +123,8 @@ impl<'c> ClassGrader<'c> {
         ensures stands { IfOk result (λ grader. ClassGraderStandsFor grader start.now []) }
         ensures live { IfOk result (λ grader. grader.live ≡ true) }
     {
-        let machines = Grader::new_from(alloc, circuit, faults, classes.representatives(), start)?;
         let places = verdicts_at_start(alloc, classes.len() as usize)?;
+        let machines = Grader::new_from(alloc, circuit, faults, classes.representatives(), start)?;
         Ok(ClassGrader {
             classes,
             places,

@@ -1,7 +1,7 @@
 -- Marking what leads out.
 use Rattle.std.specs.Prelude.{eqb, ◌==◌, ◌↔◌}
 use Rattle.std.proofs.Common.{◌≡◌, ◌⊎◌, ◌<◌, ◌≤◌, ◌+◌, ◌-◌, ℕ, suc, zero, List, [], ◌∷◌, ◌++◌, Bool, true, false, not, ◌||◌, cond, length, get_or, set, refl, sym, ◌∙◌, ap, inl, inr, arith, subst, get_or-set_other, get_or-set_same}
-use Rattle.std.proofs.lemmas.Bool.{false≢true, false_from_ne_true, not_from_false, or_cases, true_from_ne_false}
+use Rattle.std.proofs.lemmas.Bool.{false_from_ne_true, false≢true, not_from_false, or_cases, or_left, or_right, true_from_ne_false}
 use Rattle.std.proofs.lemmas.Bool.Decides.{eqb_tells, nat_tests}
 use Rattle.std.proofs.lemmas.List.{length-set, length_push, set-get_or}
 use Rattle.std.proofs.lemmas.List.Folds.{list_any-append}
@@ -39,24 +39,16 @@ mark_was marks x y l is = elim (eqb_tells x y) [
 waits_push : (todo : List NetId) (n : NetId) (y : ℕ) → waits (todo ++ n ∷ []) y ≡ (waits todo y || (eqb n.0 y || false))
 waits_push todo n y = list_any-append (λ (n : NetId). n.0 == y) todo (n ∷ [])
 
-or_first : (a b : Bool) → a ≡ true → (a || b) ≡ true
-or_first true b h = refl
-or_first false b h = cc
-
-or_second : (a b : Bool) → b ≡ true → (a || b) ≡ true
-or_second true b h = refl
-or_second false b h = h
-
 same_number : (n : ℕ) → eqb n n ≡ true
 same_number n = grind (arith, nat_tests)
 
 waits_kept : (todo : List NetId) (n : NetId) (y : ℕ) → waits todo y ≡ true → waits (todo ++ n ∷ []) y ≡ true
-waits_kept todo n y h = waits_push todo n y ∙ or_first (waits todo y) (eqb n.0 y || false) h
+waits_kept todo n y h = waits_push todo n y ∙ or_left (waits todo y) (eqb n.0 y || false) h
 
 waits_new : (todo : List NetId) (n : NetId) → waits (todo ++ n ∷ []) n.0 ≡ true
 waits_new todo n =
-    waits_push todo n n.0 ∙ or_second (waits todo n.0) (eqb n.0 n.0 || false)
-    (or_first (eqb n.0 n.0) false (same_number n.0))
+    waits_push todo n n.0 ∙ or_right (waits todo n.0) (eqb n.0 n.0 || false)
+    (or_left (eqb n.0 n.0) false (same_number n.0))
 
 waits_was : (todo : List NetId) (n : NetId) (y : ℕ) → waits (todo ++ n ∷ []) y ≡ true
     → (waits todo y ≡ true) ⊎ (n.0 ≡ y)

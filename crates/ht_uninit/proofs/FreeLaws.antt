@@ -3,7 +3,7 @@
 use Rattle.std.specs.Prelude.{eqb, ltb, leb, is_some, IsTrue, ◌==◌}
 use Rattle.std.specs.List.{list_all, range_with_len}
 use Rattle.std.proofs.Common.{◌≡◌, ◌⊎◌, ◌<◌, ◌≤◌, ◌+◌, ◌*◌, ℕ, List, [], ◌∷◌, ◌++◌, Bool, true, false, not, ◌&&◌, ◌||◌, cond, Option, Some, None, length, get_or, refl, sym, ◌∙◌, ap, inl, inr, arith, subst}
-use Rattle.std.proofs.lemmas.Bool.{and_parts, false≢true, false_from_ne_true, not_from_false}
+use Rattle.std.proofs.lemmas.Bool.{and_parts, false_from_ne_true, false≢true, not_from_false, or_from}
 use Rattle.std.proofs.lemmas.Bool.Decides.{eqb_tells, nat_tests}
 use Rattle.std.proofs.lemmas.List.Folds.{list_all-append, list_any-append}
 use Rattle.std.proofs.lemmas.List.FromFn.{get_or-map-range_with_len, length-map-range_with_len}
@@ -70,15 +70,10 @@ module _ (c : Netlist) (u : List ℕ) where
       let d : Assign3 = record { var = var; value = value } in
       record {
         bits = bits_more (IsInput c) n.decisions d h.bits bit;
-        apart = λ v is. decides_more n.decisions d v ∙ neither (decides n.decisions v) (eqb var v) (h.apart v is)
+        apart = λ v is. decides_more n.decisions d v ∙ or_from (decides n.decisions v) (eqb var v) (h.apart v is)
             (other v is (eqb_tells var v));
       }
     where
-      neither : (a b : Bool) → a ≡ false → b ≡ false → (a || b) ≡ false
-      neither false false h k = refl
-      neither false true h k = cc
-      neither true b h k = cc
-
       other : (v : ℕ) → decides (held_unknown c u) v ≡ true
           → ((eqb var v ≡ true) × (var ≡ v)) ⊎ ((eqb var v ≡ false) × ¬ (var ≡ v)) → eqb var v ≡ false
       other v is (inl e) = absurd (false≢true (sym out ∙ (ap (decides (held_unknown c u)) e.1 ∙ is)))
@@ -239,15 +234,11 @@ removed_push : (removed : List Removed) (r : Removed) (j : ℕ) → is_removed r
     → is_removed (removed ++ r ∷ []) j ≡ false
 removed_push removed r j out other =
     list_any-append (λ r. removed_dff r == j) removed (r ∷ [])
-    ∙ neither (is_removed removed j) (eqb (removed_dff r) j) out (elim (eqb_tells (removed_dff r) j) [
+    ∙ or_from (is_removed removed j) (eqb (removed_dff r) j || false) out (or_from (eqb (removed_dff r) j) false
+    (elim (eqb_tells (removed_dff r) j) [
       | inl e ↦ absurd (other e.1)
       | inr e ↦ e.0
-    ])
-  where
-    neither : (a b : Bool) → a ≡ false → b ≡ false → (a || (b || false)) ≡ false
-    neither false false h k = refl
-    neither false true h k = cc
-    neither true b h k = cc
+    ]) refl)
 
 -- a flip-flop that a search freed is in no closed set within the set that was held
 freed : (c : Netlist) (budget : ℕ) (u : List ℕ) (r : Removed) → is_free r ≡ true → IsRemoval c budget u r

@@ -1,7 +1,6 @@
 //! The rounds in which flip-flops are removed from the set that is held unknown.
-ghost use Rattle.std.specs.Prelude.{◌≡◌, ◌<◌, ◌+◌, ◌++◌, ◌∷◌, [], None, length, replicate, set, IfOk};
-ghost use Rattle.ht_uninit.specs.HeldWindows.{without};
-ghost use Rattle.ht_uninit.specs.RoundStates.{IsAt, IsFinished};
+ghost use Rattle.std.specs.Prelude.{◌≡◌, ◌<◌, ◌+◌, None, length, replicate, IfOk};
+ghost use Rattle.ht_uninit.specs.RoundStates.{IsAt, IsFinished, IsRemoved};
 
 use crate::held_window::HeldWindow;
 use crate::net_search::{Searched, search_net};
@@ -25,13 +24,7 @@ pub struct Rounds<'c> {
 fn remove<'c>(rounds: Rounds<'c>, j: u32, why: Removed) -> Result<Rounds<'c>, AllocError>
     requires member { j < length rounds.held.circuit.dffs }
     requires walks { j < length rounds.walks.items }
-    ensures circuit { IfOk result (λ r. r.held.circuit ≡ rounds.entry.held.circuit) }
-    ensures members { IfOk result (λ r. r.held.members ≡ without rounds.entry.held.members j) }
-    ensures path { IfOk result (λ r. r.held.path ≡ []) }
-    ensures removed { IfOk result
-        (λ r. r.removed.items ≡ rounds.entry.removed.items ++ why ∷ []) }
-    ensures walks { IfOk result (λ r. r.walks.items ≡ set rounds.entry.walks.items j None) }
-    ensures before { IfOk result (λ r. r.before ≡ rounds.entry.before) }
+    ensures { IfOk result (IsRemoved rounds.entry j why) }
 {
     let Rounds {
         held,
@@ -91,14 +84,8 @@ fn search_member<'c>(
             rounds.walks[j as usize] = Some(tokens);
             Ok(rounds)
         },
-        Out3::Seen { sets } => {
-            let freed = remove(rounds, j, Removed::Free { dff: j, sets })?;
-            Ok(freed)
-        },
-        Out3::Open { tokens } => {
-            let spent = remove(rounds, j, Removed::Spent { dff: j, tokens })?;
-            Ok(spent)
-        },
+        Out3::Seen { sets } => remove(rounds, j, Removed::Free { dff: j, sets }),
+        Out3::Open { tokens } => remove(rounds, j, Removed::Spent { dff: j, tokens }),
     }
 }
 

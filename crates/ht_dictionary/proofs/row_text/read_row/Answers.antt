@@ -1,7 +1,13 @@
-use Rattle.ht_dictionary.specs.ResponseTexts.{tern_code}
-use Rattle.ht_texts.proofs.CodedLaws.{none_coded}
+use Rattle.std.proofs.Common.{◌∙◌, sym}
+use Rattle.std.proofs.lemmas.Result.{IfOk-weaker}
+use Rattle.ht_dictionary.proofs.RowTextLaws.{no_row, row_read}
 use Rattle.ht_dictionary.proofs.row_text.read_row.Goals as goal
 
-pub returns-in_default : goal.returns-in_default
-returns-in_default c = none_coded tern_code _ _ c.loop-character.character-index c.loop-character-test.true
-    c.in_default.ensures
+pub returns-then-contains : goal.returns-then-contains
+returns-then-contains c = λ row.
+    no_row c.args.width c.args.line.now row (sym c.contains.ensures.value ∙ c.if-contains.true)
+
+pub returns : goal.returns
+returns c =
+    IfOk-weaker c.read_start.result _ _ (λ read. row_read c.args.width c.args.line.now read
+    (sym c.contains.ensures.value ∙ c.if-contains.false)) c.read_start.ensures

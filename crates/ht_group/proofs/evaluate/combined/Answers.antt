@@ -3,7 +3,7 @@ use Rattle.ht_tern.specs.Gate.{operation_of}
 use Rattle.ht_tern.specs.declared.gate.Kind.{Kind}
 use Rattle.ht_tern.specs.declared.gate.Kind.TheVariants.{And, Nand, Or, Nor, Xor, Xnor, Not, Buf}
 use Rattle.ht_lanes.specs.Lanes.{Lanes, lane_operations}
-use Rattle.ht_group.specs.GateRows.{operation_row}
+use Rattle.ht_pairs.specs.Places.{place_of}
 use Rattle.ht_group.proofs.evaluate.combined.Goals as goal
 
 -- what stands at a kind's place
@@ -11,8 +11,8 @@ module _ (v w d : Lanes) where
   abbrev rows : List Lanes
   rows = lane_operations.conjunction v w ∷ lane_operations.disjunction v w ∷ lane_operations.parity v w ∷ v ∷ []
 
-  row_of : (kind : Kind) → get_or rows (operation_row kind) d ≡ operation_of lane_operations kind v w
-  row_of kind = elim kind as (λ k. get_or rows (operation_row k) d ≡ operation_of lane_operations k v w) [
+  row_of : (kind : Kind) → get_or rows (place_of kind) d ≡ operation_of lane_operations kind v w
+  row_of kind = elim kind as (λ k. get_or rows (place_of k) d ≡ operation_of lane_operations k v w) [
     | And ↦ refl
     | Nand ↦ refl
     | Or ↦ refl

@@ -8,11 +8,8 @@ use Rattle.ht_uninit.proofs.exposed.mark_read.Goals as goal
 pub returns-then-net-first_gate_net-clause-exposed : goal.returns-then-net-first_gate_net-clause-exposed
 returns-then-net-first_gate_net-clause-exposed c = λ mute outputs h.
     let n = c.args.circuit.now in
-    let inputs = c.inputs-inputs.ensures in
-    let dffs = c.dffs.ensures in
-    let high = c.if-net-first_gate_net.true in
     let e : c.args.net.0 ≡ first_gate_net n + (c.args.net.0 - (c.inputs-inputs.result + c.dffs.result)) =
-    omega (arith, inputs, dffs, high) in
+    omega (arith, c.inputs-inputs.ensures, c.dffs.ensures, c.if-net-first_gate_net.true) in
     c.in_ok-mark_arguments.ensures.exposed mute outputs
     (subst (λ (y : ℕ). AreExposed n mute outputs c.args.marks.now.items c.args.todo.now.items y 0) e h)
 

@@ -1,4 +1,4 @@
-use Rattle.std.proofs.Common.{◌≡◌, ◌≢◌, ◌∙◌, ℕ, None, length, ap, replicate, sym, subst, arith, List}
+use Rattle.std.proofs.Common.{◌∙◌, ℕ, None, length, ap, replicate, sym, subst, arith, List}
 use Rattle.ht_uninit.specs.declared.record.Removed.{Removed}
 use Rattle.ht_uninit.specs.RoundStates.{IsAt}
 use Rattle.ht_uninit.proofs.RoundLaws.{at_again, at_end, at_start, fewer_left}
@@ -17,26 +17,12 @@ rounds-init c =
 
 pub rounds-smaller : goal.rounds-smaller
 rounds-smaller c =
-    let removed = c.in_ok-next.next.removed in
-    let count = c.len.ensures in
-    let more = c.if-last.false in
-    let differ : length c.in_ok-next.next.removed.items ≢ c.in_ok-next.next.before = λ e.
-    more (omega (arith, count, e)) in
-    fewer_left _ _ _ _ c.rounds.rounds.removed.items _ _ c.in_ok-next.ensures.at c.in_ok-next.ensures.before differ
+    fewer_left _ _ _ _ c.rounds.rounds.removed.items _ _ c.in_ok-next.ensures.at c.in_ok-next.ensures.before
+    (λ none. c.if-last.false (omega (arith, c.len.ensures, none)))
 
 pub rounds-preserved : goal.rounds-preserved
 rounds-preserved c =
-    let removed = c.in_ok-next.next.removed in
-    let count = c.len.ensures in
-    let more = c.if-last.false in
-    let differ : length c.in_ok-next.next.removed.items ≢ c.in_ok-next.next.before = λ e.
-    more (omega (arith, count, e)) in
-    at_again _ _ _ _ _ _ c.in_ok-next.ensures.at differ
+    at_again _ _ _ _ _ _ c.in_ok-next.ensures.at (λ none. c.if-last.false (omega (arith, c.len.ensures, none)))
 
 pub returns-then-last : goal.returns-then-last
-returns-then-last c =
-    let removed = c.in_ok-next.next.removed in
-    let count = c.len.ensures in
-    let test = c.if-last.true in
-    let same : length c.in_ok-next.next.removed.items ≡ c.in_ok-next.next.before = omega (arith, count, test) in
-    at_end _ _ _ _ _ _ c.in_ok-next.ensures.at same
+returns-then-last c = at_end _ _ _ _ _ _ c.in_ok-next.ensures.at (omega (arith, c.len.ensures, c.if-last.true))

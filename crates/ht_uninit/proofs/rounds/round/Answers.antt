@@ -24,10 +24,8 @@ returns-clause-before c = c.loop-j.invariant.0
 
 pub returns-clause-at : goal.returns-clause-at
 returns-clause-at c =
-    let test = c.loop-j-test.false in
-    let count = c.dffs-j-end.ensures in
-    let end = c.loop-j.auto.j-end in
-    let all : c.loop-j.j ≡ length c.args.circuit.now.dffs = omega (arith, test, count, end) in
+    let all : c.loop-j.j ≡ length c.args.circuit.now.dffs =
+    omega (arith, c.loop-j-test.false, c.dffs-j-end.ensures, c.loop-j.auto.j-end) in
     let r = c.loop-j.next in
     subst (λ (j : ℕ). IsAt c.args.circuit.now c.args.budget r.before j r.held r.removed.items r.walks.items) all
     c.loop-j.invariant.1

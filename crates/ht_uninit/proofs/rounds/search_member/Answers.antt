@@ -1,12 +1,15 @@
 use Rattle.std.proofs.Common.{◌≡◌, ◌<◌, ◌∙◌, ◌+◌, ℕ, List, true, length, ap, arith, refl, sym, subst}
+use Rattle.std.proofs.lemmas.Result.{IfOk-weaker}
 use Rattle.ht_faults.specs.Sites.{data_net}
 use Rattle.ht_net.specs.declared.net.NetId.{NetId}
 use Rattle.ht_net.specs.Netlist.{Netlist}
 use Rattle.ht_tree.specs.Decisions.{is_in}
+use Rattle.ht_uninit.specs.declared.record.Removed.{Removed}
 use Rattle.ht_uninit.specs.declared.record.Removed.TheVariants.{Free, Spent}
+use Rattle.ht_uninit.specs.declared.rounds.Rounds.{Rounds}
 use Rattle.ht_uninit.specs.HeldWindows.{without}
-use Rattle.ht_uninit.specs.RoundStates.{IsAt}
-use Rattle.ht_uninit.specs.Rounds.{IsOutput}
+use Rattle.ht_uninit.specs.RoundStates.{IsAt, IsRemoved}
+use Rattle.ht_uninit.specs.Rounds.{IsOutput, IsRemoval, removed_dff}
 use Rattle.ht_uninit.proofs.OutputLaws.{net_inside, output_here}
 use Rattle.ht_uninit.proofs.RoundLaws.{at_keeps, at_passes, at_removes, dff_inside, dff_walk}
 use Rattle.ht_uninit.proofs.rounds.search_member.Goals as goal
@@ -30,6 +33,23 @@ output c =
 
 inside : (c : In_ok-searched) → c.args.j < length c.in_ok-searched.searched.held.circuit.dffs
 inside c = subst (λ (n : Netlist). c.args.j < length n.dffs) (sym (circuit_is c)) c.requires.member
+
+-- the rounds after the removal of flip-flop j, for a reason that holds
+removed_at : (c : In_ok-searched) (why : Removed) (r : Rounds) → removed_dff why ≡ c.args.j
+    → IsRemoval c.args.circuit.now c.args.budget c.args.rounds.held.members why
+    → IsRemoved (record {
+      held = c.in_ok-searched.searched.held;
+      removed = c.args.rounds.removed;
+      walks = c.args.rounds.walks;
+      before = c.args.rounds.before;
+    }) c.args.j why r
+    → IsAt c.args.circuit.now c.args.budget r.before (c.args.j + 1) r.held r.removed.items r.walks.items
+removed_at c why r dff holds is =
+    subst (λ (before : ℕ). IsAt c.args.circuit.now c.args.budget before (c.args.j + 1) r.held r.removed.items
+    r.walks.items) (sym is.before)
+    (at_removes _ _ _ _ _ _ _ c.requires.at r.held (is.circuit ∙ circuit_is c) is.fresh c.requires.member (member c)
+    (is.members ∙ ap (λ (u : List ℕ). without u c.args.j) c.in_ok-searched.ensures.members) why dff holds _ is.removed
+    _ is.walks)
 
 pub is_member-stranger-requires : goal.is_member-stranger-requires
 is_member-stranger-requires c = dff_inside _ _ _ _ _ _ _ c.requires.at c.requires.member
@@ -67,19 +87,15 @@ remove-requires-clause-member c = inside (goal.at.remove-requires-clause-member 
 pub remove-requires-clause-walks : goal.remove-requires-clause-walks
 remove-requires-clause-walks c = dff_walk _ _ _ _ _ _ _ c.requires.at c.requires.member
 
-pub returns-in_ok-freed-in-Seen-clause-at : goal.returns-in_ok-freed-in-Seen-clause-at
-returns-in_ok-freed-in-Seen-clause-at c =
-    let s = (goal.at.returns-in_ok-freed-in-Seen-clause-at c).In_ok-searched in
-    let x = data_net c.args.circuit.now c.args.j in
-    let r = c.in_ok-freed-in-Seen.freed in
-    let is = c.in_ok-freed-in-Seen.ensures in
-    subst (λ (before : ℕ). IsAt c.args.circuit.now c.args.budget before (c.args.j + 1) r.held r.removed.items
-    r.walks.items) (sym is.before)
-    (at_removes _ _ _ _ _ _ _ c.requires.at r.held (is.circuit ∙ circuit_is s) is.path c.requires.member (member s)
-    (is.members ∙ ap (λ (u : List ℕ). without u c.args.j) c.in_ok-searched.ensures.members)
-    (Free c.args.j c.in-Seen.sets) refl
-    (subst (IsOutput c.args.circuit.now c.args.budget c.args.rounds.held.members x) c.in-Seen.is (output s)) _ is.removed
-    _ is.walks)
+pub returns-in-Seen : goal.returns-in-Seen
+returns-in-Seen c =
+    let s = (goal.at.returns-in-Seen c).In_ok-searched in
+    record {
+      before = IfOk-weaker c.remove.result _ _ (λ r is. is.before) c.remove.ensures;
+      at = IfOk-weaker c.remove.result _ _ (λ r is. removed_at s (Free c.args.j c.in-Seen.sets) r refl
+          (subst (IsOutput c.args.circuit.now c.args.budget c.args.rounds.held.members
+          (data_net c.args.circuit.now c.args.j)) c.in-Seen.is (output s)) is) c.remove.ensures;
+    }
 
 pub remove-requires-in-Open-clause-member : goal.remove-requires-in-Open-clause-member
 remove-requires-in-Open-clause-member c = inside (goal.at.remove-requires-in-Open-clause-member c).In_ok-searched
@@ -87,16 +103,12 @@ remove-requires-in-Open-clause-member c = inside (goal.at.remove-requires-in-Ope
 pub remove-requires-in-Open-clause-walks : goal.remove-requires-in-Open-clause-walks
 remove-requires-in-Open-clause-walks c = dff_walk _ _ _ _ _ _ _ c.requires.at c.requires.member
 
-pub returns-in_ok-spent-in-Open-clause-at : goal.returns-in_ok-spent-in-Open-clause-at
-returns-in_ok-spent-in-Open-clause-at c =
-    let s = (goal.at.returns-in_ok-spent-in-Open-clause-at c).In_ok-searched in
-    let x = data_net c.args.circuit.now c.args.j in
-    let r = c.in_ok-spent-in-Open.spent in
-    let is = c.in_ok-spent-in-Open.ensures in
-    subst (λ (before : ℕ). IsAt c.args.circuit.now c.args.budget before (c.args.j + 1) r.held r.removed.items
-    r.walks.items) (sym is.before)
-    (at_removes _ _ _ _ _ _ _ c.requires.at r.held (is.circuit ∙ circuit_is s) is.path c.requires.member (member s)
-    (is.members ∙ ap (λ (u : List ℕ). without u c.args.j) c.in_ok-searched.ensures.members)
-    (Spent c.args.j c.in-Open.tokens) refl
-    (subst (IsOutput c.args.circuit.now c.args.budget c.args.rounds.held.members x) c.in-Open.is (output s)) _ is.removed
-    _ is.walks)
+pub returns-in-Open : goal.returns-in-Open
+returns-in-Open c =
+    let s = (goal.at.returns-in-Open c).In_ok-searched in
+    record {
+      before = IfOk-weaker c.remove-in-Open.result _ _ (λ r is. is.before) c.remove-in-Open.ensures;
+      at = IfOk-weaker c.remove-in-Open.result _ _ (λ r is. removed_at s (Spent c.args.j c.in-Open.tokens) r refl
+          (subst (IsOutput c.args.circuit.now c.args.budget c.args.rounds.held.members
+          (data_net c.args.circuit.now c.args.j)) c.in-Open.is (output s)) is) c.remove-in-Open.ensures;
+    }

@@ -46,17 +46,11 @@ loop-o-preserved c =
 
 pub returns-clause-every : goal.returns-clause-every
 returns-clause-every c =
-    let test = c.loop-o-test.false in
-    let count = c.outputs-o-end.ensures in
-    let end = c.loop-o.auto.o-end in
-    let long = c.loop-o.invariant.3 in
-    omega (arith, test, count, end, long)
+    omega (arith, c.loop-o-test.false, c.outputs-o-end.ensures, c.loop-o.auto.o-end, c.loop-o.invariant.3)
 
 pub returns-clause-outs : goal.returns-clause-outs
 returns-clause-outs c =
-    let test = c.loop-o-test.false in
-    let count = c.outputs-o-end.ensures in
-    let end = c.loop-o.auto.o-end in
-    let all : c.loop-o.o ≡ length c.args.circuit.now.outputs = omega (arith, test, count, end) in
+    let all : c.loop-o.o ≡ length c.args.circuit.now.outputs =
+    omega (arith, c.loop-o-test.false, c.outputs-o-end.ensures, c.loop-o.auto.o-end) in
     subst (λ (o : ℕ). AreOutputs c.args.circuit.now c.args.budget c.args.held.members o c.loop-o.outs.items) all
     c.loop-o.invariant.4

@@ -11,7 +11,7 @@ invariant_of-result c =
     let w = c.in_ok-words.ensures in
     is_group _ words is.frame.circuit is.frame.schedule is.frame.good (λ i. words) w.count
     (bare_words n frame.schedule frame.good frame.pending words w.each) (bare_filled n words w.count w.each)
-    (omega arith) is.frame.marks (omega (arith, c.in_ok-vec.ensures.len)) (omega (arith, c.in_ok-vec-2.ensures.len))
+    (omega arith) is.frame.marks (omega (arith, c.in_ok-pins.ensures.len)) (omega (arith, c.in_ok-fours.ensures.len))
     (λ settled. is.none)
 
 pub returns-clause-circuit : goal.returns-clause-circuit

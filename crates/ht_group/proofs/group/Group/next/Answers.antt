@@ -21,34 +21,34 @@ data_pin-requires-clause-stuck c =
     subst (λ (m : Machines). AreStuck c.self.inside.frame.circuit.now m.lines) (sym c.index.ensures)
     (word_stuck c.self.inside c.self.invariant c.args.w c.index.result.now used)
 
-pub returns-clause-machines : goal.returns-clause-machines
-returns-clause-machines c k m below has =
-    let g = c.args.self.now in
-    let a = c.self.inside in
-    let j = c.args.j in
-    let used = used_word a c.self.invariant c.args.self.now c.self.view_is c.args.w c.requires.word in
-    let net = c.data_net.ensures.net in
-    let held = c.word-word.ensures.machines k m below has ∙ ap (λ (n : NetId). faulty_value g m n.0) net in
-    let fault : slice_get c.index.result.now.lines.faults.items k ≡ Some m.fault =
-    ap (λ (o : Machines). slice_get o.lines.faults.items k) c.index.ensures
-    ∙ fault_of a c.self.invariant c.args.w c.index.result.now used k m below
-    (ap (λ (v : GroupView). slice_get v.machines (lane_count * c.args.w + k)) c.self.view_is ∙ has) in
-    c.data_pin.ensures k below
-    ∙ ((λ i. (tern_rules (fault i)).data_pin j (held i))
-    ∙ next_at g.circuit (tern_rules (Some m.fault)) g.vector m.latches j c.requires.latch)
-
-pub returns-clause-others : goal.returns-clause-others
-returns-clause-others c k below past =
-    let g = c.args.self.now in
-    let a = c.self.inside in
-    let j = c.args.j in
-    let used = used_word a c.self.invariant c.args.self.now c.self.view_is c.args.w c.requires.word in
-    let net = c.data_net.ensures.net in
-    let held = c.word-word.ensures.others k below past ∙ ap (λ (n : NetId). good_value g n.0) net in
-    let count = ap (λ (v : GroupView). length v.machines) c.self.view_is in
-    let none : slice_get c.index.result.now.lines.faults.items k ≡ None =
-    ap (λ (o : Machines). slice_get o.lines.faults.items k) c.index.ensures
-    ∙ spare_lane a c.self.invariant c.args.w c.index.result.now used k below (omega (arith, past, count)) in
-    c.data_pin.ensures k below
-    ∙ ((λ i. (tern_rules (none i)).data_pin j (held i))
-    ∙ next_at g.circuit (tern_rules None) g.vector g.latches j c.requires.latch)
+pub returns : goal.returns
+returns c = record {
+  machines = λ k m below has.
+      let g = c.args.self.now in
+      let a = c.self.inside in
+      let j = c.args.j in
+      let used = used_word a c.self.invariant c.args.self.now c.self.view_is c.args.w c.requires.word in
+      let net = c.data_net.ensures.net in
+      let held = c.word-word.ensures.machines k m below has ∙ ap (λ (n : NetId). faulty_value g m n.0) net in
+      let fault : slice_get c.index.result.now.lines.faults.items k ≡ Some m.fault =
+      ap (λ (o : Machines). slice_get o.lines.faults.items k) c.index.ensures
+      ∙ fault_of a c.self.invariant c.args.w c.index.result.now used k m below
+      (ap (λ (v : GroupView). slice_get v.machines (lane_count * c.args.w + k)) c.self.view_is ∙ has) in
+      c.data_pin.ensures k below
+      ∙ ((λ i. (tern_rules (fault i)).data_pin j (held i))
+      ∙ next_at g.circuit (tern_rules (Some m.fault)) g.vector m.latches j c.requires.latch);
+  others = λ k below past.
+      let g = c.args.self.now in
+      let a = c.self.inside in
+      let j = c.args.j in
+      let used = used_word a c.self.invariant c.args.self.now c.self.view_is c.args.w c.requires.word in
+      let net = c.data_net.ensures.net in
+      let held = c.word-word.ensures.others k below past ∙ ap (λ (n : NetId). good_value g n.0) net in
+      let count = ap (λ (v : GroupView). length v.machines) c.self.view_is in
+      let none : slice_get c.index.result.now.lines.faults.items k ≡ None =
+      ap (λ (o : Machines). slice_get o.lines.faults.items k) c.index.ensures
+      ∙ spare_lane a c.self.invariant c.args.w c.index.result.now used k below (omega (arith, past, count)) in
+      c.data_pin.ensures k below
+      ∙ ((λ i. (tern_rules (none i)).data_pin j (held i))
+      ∙ next_at g.circuit (tern_rules None) g.vector g.latches j c.requires.latch);
+}

@@ -19,20 +19,20 @@ bounds-words-index c =
     let same = ap (λ (m : Machines). length m.nets.good) c.index.ensures in
     omega (arith, c.requires.net, size, room, same, c.words.ensures.count, c.index-2.ensures)
 
-pub returns-clause-machines : goal.returns-clause-machines
-returns-clause-machines c k m below has =
-    let used = used_word c.self.inside c.self.invariant c.args.self.now c.self.view_is c.args.w c.requires.word in
-    word_read c.self.inside c.self.invariant c.args.w c.index.result.now used c.args.self.now c.self.view_is
-    c.index.result.now c.index.ensures c.words.result.now c.args.net.0 c.index-2.result c.index-words-index.result
-    c.words.ensures.words c.words.ensures.count c.requires.net c.index-2.ensures c.index-words-index.is k
-    ∙ word_value c.self.inside c.self.invariant c.args.w c.index.result.now used c.args.self.now c.self.view_is
-    c.requires.settled c.args.net.0 c.requires.net k m below has
-
-pub returns-clause-others : goal.returns-clause-others
-returns-clause-others c k below past =
-    let used = used_word c.self.inside c.self.invariant c.args.self.now c.self.view_is c.args.w c.requires.word in
-    word_read c.self.inside c.self.invariant c.args.w c.index.result.now used c.args.self.now c.self.view_is
-    c.index.result.now c.index.ensures c.words.result.now c.args.net.0 c.index-2.result c.index-words-index.result
-    c.words.ensures.words c.words.ensures.count c.requires.net c.index-2.ensures c.index-words-index.is k
-    ∙ word_spare c.self.inside c.self.invariant c.args.w c.index.result.now used c.args.self.now c.self.view_is
-    c.requires.settled c.args.net.0 c.requires.net k below past
+pub returns : goal.returns
+returns c = record {
+  machines = λ k m below has.
+      let used = used_word c.self.inside c.self.invariant c.args.self.now c.self.view_is c.args.w c.requires.word in
+      word_read c.self.inside c.self.invariant c.args.w c.index.result.now used c.args.self.now c.self.view_is
+      c.index.result.now c.index.ensures c.words.result.now c.args.net.0 c.index-2.result c.index-words-index.result
+      c.words.ensures.words c.words.ensures.count c.requires.net c.index-2.ensures c.index-words-index.is k
+      ∙ word_value c.self.inside c.self.invariant c.args.w c.index.result.now used c.args.self.now c.self.view_is
+      c.requires.settled c.args.net.0 c.requires.net k m below has;
+  others = λ k below past.
+      let used = used_word c.self.inside c.self.invariant c.args.self.now c.self.view_is c.args.w c.requires.word in
+      word_read c.self.inside c.self.invariant c.args.w c.index.result.now used c.args.self.now c.self.view_is
+      c.index.result.now c.index.ensures c.words.result.now c.args.net.0 c.index-2.result c.index-words-index.result
+      c.words.ensures.words c.words.ensures.count c.requires.net c.index-2.ensures c.index-words-index.is k
+      ∙ word_spare c.self.inside c.self.invariant c.args.w c.index.result.now used c.args.self.now c.self.view_is
+      c.requires.settled c.args.net.0 c.requires.net k below past;
+}

@@ -12,7 +12,7 @@ use Rattle.ht_proofs.specs.Detections.{place_at}
 use Rattle.ht_proofs.specs.PackedView.{PackedView, chosen_faults}
 use Rattle.ht_proofs.proofs.ClassGraderLaws.{none_for, none_placed, nowhere, starts}
 use Rattle.ht_proofs.proofs.class_grader.ClassGrader.new_from.Goals as goal
-use Rattle.ht_proofs.proofs.class_grader.ClassGrader.new_from.Goals.{In_ok-places}
+use Rattle.ht_proofs.proofs.class_grader.ClassGrader.new_from.Goals.{In_ok-machines}
 
 pub new_from-requires-clause-known : goal.new_from-requires-clause-known
 new_from-requires-clause-known c =
@@ -20,24 +20,24 @@ new_from-requires-clause-known c =
     (λ k less. own_below c.args.classes.now _ k (length c.args.faults.now) c.representatives.ensures less
     (ap (λ (l : List Fault). length l) c.requires.faults ∙ sym c.requires.classes.every))
 
-circuit_is : (c : In_ok-places) → c.in_ok-machines.machines.circuit ≡ c.args.circuit.now
+circuit_is : (c : In_ok-machines) → c.in_ok-machines.machines.circuit ≡ c.args.circuit.now
 circuit_is c = ap (λ (g : PackedView). g.circuit) c.in_ok-machines.ensures.start
 
-classes_are : (c : In_ok-places) → AreClasses c.in_ok-machines.machines.circuit c.args.classes.now
+classes_are : (c : In_ok-machines) → AreClasses c.in_ok-machines.machines.circuit c.args.classes.now
 classes_are c = subst (λ (n : Netlist). AreClasses n c.args.classes.now) (sym (circuit_is c)) c.requires.classes
 
 -- there is no place, for each fault
-each : (c : In_ok-places) → length c.in_ok-places.places.items ≡ length c.args.classes.now
+each : (c : In_ok-machines) → length c.in_ok-places.places.items ≡ length c.args.classes.now
 each c =
     ap (λ (l : List (Option Place)). length l) c.in_ok-places.ensures
     ∙ (length-replicate c.len.result nowhere ∙ c.len.ensures)
 
-none : (c : In_ok-places) (i : ℕ) → place_at c.in_ok-places.places.items i ≡ None
+none : (c : In_ok-machines) (i : ℕ) → place_at c.in_ok-places.places.items i ≡ None
 none c i = none_placed c.len.result i c.in_ok-places.places.items c.in_ok-places.ensures
 
 pub invariant_of-result : goal.invariant_of-result
 invariant_of-result c =
-    let at = (goal.at.invariant_of-result c).In_ok-places in
+    let at = (goal.at.invariant_of-result c).In_ok-machines in
     let machines = c.in_ok-machines.machines in
     let numbers = c.representatives.result.now in
     record {
@@ -53,7 +53,7 @@ invariant_of-result c =
 
 pub returns-clause-stands : goal.returns-clause-stands
 returns-clause-stands c =
-    let at = (goal.at.returns-clause-stands c).In_ok-places in
+    let at = (goal.at.returns-clause-stands c).In_ok-machines in
     starts _ c.args.start.now (classes_are at)
     (subst (λ (n : Netlist). IsStart n c.args.start.now) (sym (circuit_is at)) c.requires.latches) (each at) (none at)
     c.in_ok-machines.ensures.stands
