@@ -19,11 +19,7 @@ fn has(state: &[bool], literal: Literal) -> bool
 fn is_met(state: &[bool], clause: &Clause) -> bool
     ensures { result ≡ meets state.now (literals_of clause.now) }
 {
-    let first = has(state, clause.first);
-    match clause.second {
-        None => first,
-        Some(literal) => first || has(state, literal),
-    }
+    has(state, clause.first) || clause.second.is_some_and(|second| has(state, second))
 }
 
 // Whether a state meets every clause, one by one.

@@ -3,10 +3,8 @@
 use Rattle.std.proofs.Common.{◌≡◌, ◌∙◌, ◌<◌, ◌+◌, ◌-◌, ℕ, Bool, true, List, [], ◌∷◌, ◌++◌, Option, Some, None, Ok, Err, inl, inr, length, length-append, refl, sym, ap, subst, arith}
 use Rattle.std.specs.List.{All, Contains}
 use Rattle.std.proofs.Math.ListN.{get_or-map}
-use Rattle.std.proofs.lemmas.Bool.{false≢true}
 use Rattle.std.proofs.lemmas.List.{get_or_append_left, map-append}
 use Rattle.std.proofs.lemmas.List.Elements.{All-cons, All-head, All-nil, All-push, All-tail, Contains-push}
-use Rattle.ht_ports.specs.LineRule.{max_text_bytes}
 use Rattle.ht_tern.specs.declared.tern.Tern.{Tern}
 use Rattle.ht_net.specs.declared.place.Place.{Place}
 use Rattle.ht_net.specs.Netlist.{Netlist}
@@ -32,14 +30,12 @@ use Rattle.ht_entries.proofs.ReaderLaws.{whole_is_at_end}
 use Rattle.ht_entries.proofs.RisesLaws.{rises_none}
 use Rattle.ht_valid.specs.ValidFiles.{AgreesWithTests, Backs, Content, IsBacking, IsJustified, IsOwn, NeedsEntry, said_by_kind}
 use Rattle.ht_valid.specs.FirstTrouble.{IsEvidence, IsEvidenceTrouble}
-use Rattle.ht_valid.specs.declared.trouble.Trouble.TheVariants as trouble
 use Rattle.ht_judge.specs.declared.judge_error.JudgeError.{JudgeError}
-use Rattle.ht_judge.specs.declared.judge_error.JudgeError.TheVariants.{Denied, NoMemory}
 use Rattle.ht_judge.specs.declared.proof_judge.ProofJudge.TheInside.{Inside}
 use Rattle.ht_judge.specs.JudgingSteps.{DeniesDue, FollowsEnded, IsOwnNumber, JudgesEnded, TakesVerdict, due_by, said_with}
-use Rattle.ht_judge.specs.ProofJudging.{AreJustifyingProofs, FollowsProofs, IsClaimed, ProofJudgeView, ProofJudged, ProofLineDeniedFor}
-use Rattle.ht_judge.specs.ProofJudgeOf.{JudgesClaims, proof_judge_view}
-use Rattle.ht_judge.proofs.ProofLaws.{all_below, as_claimed, as_content, entry_kept, equal_or_not, judge_with, judging_with}
+use Rattle.ht_judge.specs.ProofJudging.{AreJustifyingProofs, FollowsProofs, IsClaimed, ProofJudgeView, ProofJudged}
+use Rattle.ht_judge.specs.ProofJudgeOf.{JudgesClaims}
+use Rattle.ht_judge.proofs.ProofLaws.{Stops, all_below, as_claimed, as_content, due_denied, ended_denied, ends_wrong, entry_kept, equal_or_not, judge_before, judge_with, judging_with}
 
 -- a content with these verdicts and entries
 abbrev content_with : Content → List Said → List Numbered → Content
@@ -166,132 +162,83 @@ module _ (c : Netlist) (representatives : List ℕ) (content : Content) (old new
 
 -- ---- a call with a line
 
--- a call that ends with an error
-abbrev pub StopsFollowing : Inside → List Said → ProofReaderView → List ℕ → JudgeError → Type 0
-StopsFollowing a saids r line error =
-    ProofJudged FollowsProofs IsEvidenceTrouble (proof_judge_view a) (judging_with a saids r) line (Err error)
-
-stops : (a : Inside) (saids : List Said) (r : ProofReaderView) (line : List ℕ) (error : JudgeError)
-    → ((content : Content) (before : List (List ℕ)) → FollowsProofs (proof_judge_view a) content before
-    → length before < max_text_bytes
-    → ProofLineDeniedFor (IsEvidenceTrouble a.circuit.now a.classes.now content) before line error)
-    → StopsFollowing a saids r line error
-stops a saids r line error cause = record {
-  circuit = refl;
-  representatives = refl;
-  live = refl;
-  taken = λ content before f few. tt;
-  cause = cause;
-}
-
-module _ (a : Inside) (r : ProofReaderView) (line : List ℕ) (ended : Option Numbered)
-    (called : ProofCalled a.reader r line (Ok ended)) (saids : List Said)
-    (follows : a.follows ≡ true → FollowsEnded a.classes.now ended a.claims.saids.items saids)
+module _ (a : Inside) (reader : ProofReaderView) (line : List ℕ) (ended : Option Numbered)
+    (called : ProofCalled reader a.reader line (Ok ended)) (saids : List Said)
+    (follows : a.follows ≡ true → FollowsEnded a.subject.classes.now ended a.claims.saids.items saids)
     (keeps : JudgesClaims a) where
   claims_now : (content : Content) (before : List (List ℕ)) (entries : List Numbered)
-      → FollowsProofs (proof_judge_view a) content before
-      → IsClaimed (judging_with a saids r) (content_with content saids entries)
+      → FollowsProofs (judge_before a reader) content before
+      → IsClaimed (judging_with a saids) (content_with content saids entries)
   claims_now content before entries f = record { start = f.start; budget = f.budget; saids = refl }
 
-  own_number : (e : Numbered) → IsOwn a.circuit.now a.classes.now (e.number - 1) → 0 < e.number
-      → IsOwnNumber a.classes.now e.number
+  own_number : (e : Numbered) → IsOwn a.subject.circuit.now a.subject.classes.now (e.number - 1) → 0 < e.number
+      → IsOwnNumber a.subject.classes.now e.number
   own_number e own counted = record {
-    counted = (counted, omega (arith, own.listed, counted, keeps.classes.every));
+    counted = (counted, omega (arith, own.listed, counted, keeps.subject.classes.every));
     own = own.own;
   }
 
   -- evidence backs what is said with it
   evidence_backs : (content : Content) (before : List (List ℕ)) (e : Numbered) (entries : List Numbered)
-      → FollowsProofs (proof_judge_view a) content before → ended ≡ Some e
-      → IsEvidence a.circuit.now a.classes.now content.start content.list content.budget e
-      → IsBacking a.circuit.now a.classes.now (content_with content saids entries) e
+      → FollowsProofs (judge_before a reader) content before → ended ≡ Some e
+      → IsEvidence a.subject.circuit.now a.subject.classes.now content.start content.list content.budget e
+      → IsBacking a.subject.circuit.now a.subject.classes.now (content_with content saids entries) e
   evidence_backs content before e entries f same is =
-      let takes = subst (λ (o : Option Numbered). FollowsEnded a.classes.now o a.claims.saids.items saids) same
+      let takes = subst (λ (o : Option Numbered). FollowsEnded a.subject.classes.now o a.claims.saids.items saids) same
       (follows f.follows) (own_number e is.own is.counted) in
       record {
         own = is.own;
         counted = is.counted;
-        backs = subst (Backs a.circuit.now content.start content.budget (e.number - 1) e.entry) (sym takes.taken)
-            (taken_backs a.circuit.now content.start content.list content.budget (e.number - 1) e.entry
+        backs = subst (Backs a.subject.circuit.now content.start content.budget (e.number - 1) e.entry)
+            (sym takes.taken) (taken_backs a.subject.circuit.now content.start content.list content.budget (e.number - 1) e.entry
             (said_at a.claims.saids.items (e.number - 1)) (f.justified.agrees (e.number - 1) is.own) is.passes);
       }
 
-  wrong_cause : (content : Content) (before : List (List ℕ)) → FollowsProofs (proof_judge_view a) content before
-      → length before < max_text_bytes → (found : Option Numbered) → ended ≡ found → (error : JudgeError)
-      → JudgesEnded (judging_with a saids r) found (Err error)
-      → ProofLineDeniedFor (IsEvidenceTrouble a.circuit.now a.classes.now content) before line error
-  wrong_cause content before f few None same error judged = absurd (false≢true judged)
-  wrong_cause content before f few (Some e) same (Denied (trouble.Tests n)) judged = absurd judged
-  wrong_cause content before f few (Some e) same (Denied (trouble.Report n)) judged = absurd judged
-  wrong_cause content before f few (Some e) same (Denied (trouble.Proofs n)) judged = absurd judged
-  wrong_cause content before f few (Some e) same (Denied (trouble.Fault n)) judged =
-      let next = called.taken before f.at f.stands few in
-      record {
-        new = next.at;
-        ended = e;
-        reads = record {
-          old = f.at;
-          from = f.stands.read;
-          to = next.stands.read;
-          ends = subst (EndsEntry f.at next.at) same next.ends;
-        };
-        number_is = judged.0;
-        wrong = λ is. judged.1 (as_claimed (judging_with a saids r) (content_with content saids [])
-            (claims_now content before [] f) e (evidence_backs content before e [] f same is));
-      }
-  wrong_cause content before f few (Some e) same NoMemory judged = tt
-
-  pub ended_stops_following : (error : JudgeError) → JudgesEnded (judging_with a saids r) ended (Err error)
-      → StopsFollowing a saids r line error
-  ended_stops_following error judged = stops a saids r line error
-      (λ content before f few. wrong_cause content before f few ended refl error judged)
+  pub ended_stops_following : (error : JudgeError) → JudgesEnded (judging_with a saids) ended (Err error)
+      → Stops FollowsProofs IsEvidenceTrouble a reader line saids error
+  ended_stops_following = ended_denied FollowsProofs IsEvidenceTrouble a reader line saids ended
+      (λ e same none content before f few. ends_wrong a reader line ended called
+      (IsEvidence a.subject.circuit.now a.subject.classes.now content.start content.list content.budget) before f.at
+      f.stands few e same (λ is. none (as_claimed (judging_with a saids) (content_with content saids [])
+      (claims_now content before [] f) e (evidence_backs content before e [] f same is))))
 
   -- no entry is due
-  module _ (stand_is : Stand) (due : ℕ) (is_due : due ≡ due_by a.follows stand_is (length a.classes.now)) where
+  module _ (stand_is : Stand) (due : ℕ) (is_due : due ≡ due_by a.follows stand_is (length a.subject.classes.now)) where
     none_due : a.follows ≡ true → due ≡ 0
-    none_due on = is_due ∙ ap (λ follows. due_by follows stand_is (length a.classes.now)) on
+    none_due on = is_due ∙ ap (λ follows. due_by follows stand_is (length a.subject.classes.now)) on
 
-    missing_cause : (content : Content) (before : List (List ℕ)) → FollowsProofs (proof_judge_view a) content before
-        → (error : JudgeError) → DeniesDue (judging_with a saids r) due error
-        → ProofLineDeniedFor (IsEvidenceTrouble a.circuit.now a.classes.now content) before line error
-    missing_cause content before f (Denied (trouble.Tests n)) denies = absurd denies
-    missing_cause content before f (Denied (trouble.Report n)) denies = absurd denies
-    missing_cause content before f (Denied (trouble.Proofs n)) denies = absurd denies
-    missing_cause content before f (Denied (trouble.Fault n)) denies =
+    pub due_stops_following : (error : JudgeError) → DeniesDue (judging_with a saids) due error
+        → Stops FollowsProofs IsEvidenceTrouble a reader line saids error
+    due_stops_following = due_denied FollowsProofs IsEvidenceTrouble a reader line saids due
+        (λ n counted first content before f few.
         let none = none_due f.follows in
-        let inside = denies.1.inside.1 in
-        absurd (omega (arith, none, inside))
-    missing_cause content before f NoMemory denies = tt
-
-    pub due_stops_following : (error : JudgeError) → DeniesDue (judging_with a saids r) due error
-        → StopsFollowing a saids r line error
-    due_stops_following error denies = stops a saids r line error
-        (λ content before f few. missing_cause content before f error denies)
+        let inside = first.inside.1 in
+        absurd (omega (arith, none, inside)))
 
   justified_with : (content : Content) (before : List (List ℕ)) (new : ProofReading) (found : Option Numbered)
-      (u : Unit {0}) → (f : FollowsProofs (proof_judge_view a) content before) → IsProofReading new
-      → ended ≡ found → EndsEntry f.at new found → JudgesEnded (judging_with a saids r) found (Ok u)
-      → IsJustified a.circuit.now a.classes.now (content_with content saids (closed_of new))
+      (u : Unit {0}) → (f : FollowsProofs (judge_before a reader) content before) → IsProofReading new
+      → ended ≡ found → EndsEntry f.at new found → JudgesEnded (judging_with a saids) found (Ok u)
+      → IsJustified a.subject.circuit.now a.subject.classes.now (content_with content saids (closed_of new))
   justified_with content before new None u f readable same ends judged =
-      let kept = subst (λ (o : Option Numbered). FollowsEnded a.classes.now o a.claims.saids.items saids) same
+      let kept = subst (λ (o : Option Numbered). FollowsEnded a.subject.classes.now o a.claims.saids.items saids) same
       (follows f.follows) in
-      subst (λ (s : List Said). IsJustified a.circuit.now a.classes.now (content_with content s (closed_of new)))
-      (sym kept)
-      (subst (λ (l : List Numbered). IsJustified a.circuit.now a.classes.now
+      subst (λ (s : List Said). IsJustified a.subject.circuit.now a.subject.classes.now
+      (content_with content s (closed_of new))) (sym kept)
+      (subst (λ (l : List Numbered). IsJustified a.subject.circuit.now a.subject.classes.now
       (content_with content a.claims.saids.items l)) (sym ends) f.justified)
   justified_with content before new (Some e) u f readable same ends judged =
       let all = closed_of f.at ++ e ∷ [] in
-      let backing = as_content (judging_with a saids r) (content_with content saids all)
+      let backing = as_content (judging_with a saids) (content_with content saids all)
       (claims_now content before all f) e judged in
-      let takes = subst (λ (o : Option Numbered). FollowsEnded a.classes.now o a.claims.saids.items saids) same
+      let takes = subst (λ (o : Option Numbered). FollowsEnded a.subject.classes.now o a.claims.saids.items saids) same
       (follows f.follows) (own_number e backing.own backing.counted) in
-      subst (λ (l : List Numbered). IsJustified a.circuit.now a.classes.now (content_with content saids l))
-      (sym ends)
-      (justified_on a.circuit.now a.classes.now content a.claims.saids.items saids e takes (closed_of f.at)
-      (ended_above f.at new e readable ends) f.justified backing)
+      subst (λ (l : List Numbered). IsJustified a.subject.circuit.now a.subject.classes.now
+      (content_with content saids l)) (sym ends)
+      (justified_on a.subject.circuit.now a.subject.classes.now content a.claims.saids.items saids e takes
+      (closed_of f.at) (ended_above f.at new e readable ends) f.justified backing)
 
-  pub line_followed : (u : Unit {0}) → JudgesEnded (judging_with a saids r) ended (Ok u) → (begun : ℕ)
-      → ProofJudged FollowsProofs IsEvidenceTrouble (proof_judge_view a) (judge_with a saids r begun true) line
+  pub line_followed : (u : Unit {0}) → JudgesEnded (judging_with a saids) ended (Ok u) → (begun : ℕ)
+      → ProofJudged FollowsProofs IsEvidenceTrouble (judge_before a reader) (judge_with a saids begun true) line
       (Ok tt)
   line_followed u right begun = record {
     circuit = refl;

@@ -1,5 +1,6 @@
 -- What the calls that a line of proofs makes find: of the entry that it ends, and of the entries that are due with it.
 use Rattle.std.specs.Prelude.{◌≡◌, ◌≢◌, ◌<◌, ◌≤◌, ◌+◌, ◌-◌, ℕ, List, [], Bool, true, false, length, min, Option, Some, None, Result, Ok, Err, IsOk}
+use Rattle.ht_net.specs.Netlist.{Netlist}
 use Rattle.ht_faults.specs.Classes.{is_representative}
 use Rattle.ht_texts.specs.declared.said.Said.{Said}
 use Rattle.ht_texts.specs.declared.said.Said.TheVariants.{Detected}
@@ -7,6 +8,7 @@ use Rattle.ht_texts.specs.Verdicts.{said_at}
 use Rattle.ht_entries.specs.declared.numbered.Numbered.{Numbered}
 use Rattle.ht_entries.specs.declared.reader_state.Stand.{Stand}
 use Rattle.ht_entries.specs.declared.reader_state.Stand.TheVariants.{Head, Entry, End}
+use Rattle.ht_entries.specs.ReaderStands.{ProofCalled, ProofReaderView}
 use Rattle.ht_entries.specs.declared.text_error.TextError.{TextError}
 use Rattle.ht_entries.specs.declared.text_error.TextError.TheVariants as read
 use Rattle.ht_tree.specs.declared.kind.EntryKind.{EntryKind}
@@ -15,7 +17,7 @@ use Rattle.ht_valid.specs.ValidFiles.{Content, IsBacking, NeedsEntry, said_by_ki
 use Rattle.ht_valid.specs.declared.trouble.Trouble.TheVariants.{Proofs, Fault}
 use Rattle.ht_judge.specs.declared.judge_error.JudgeError.{JudgeError}
 use Rattle.ht_judge.specs.declared.judge_error.JudgeError.TheVariants.{Denied, NoMemory}
-use Rattle.ht_judge.specs.ProofJudging.{ProofJudgeView}
+use Rattle.ht_judge.specs.ProofJudging.{ProofJudgeView, ProofJudged}
 
 -- what stops a reader stops its judge
 abbrev pub stopped_by : TextError → JudgeError
@@ -109,3 +111,13 @@ DeniesDue v due NoMemory = ⊥
 abbrev pub JudgesDue : ProofJudgeView → ℕ → Result (Unit {0}) JudgeError → Type 0
 JudgesDue v due (Ok u) = (k : ℕ) → v.begun ≤ k → k < due → ¬ IsNeeded v.representatives v.saids k
 JudgesDue v due (Err error) = DeniesDue v due error
+
+-- ---- the line
+
+-- What judging leaves, whatever line the reader took before, where that ended this entry or none.
+abbrev pub JudgesTaken : (ProofJudgeView → Content → List (List ℕ) → Type 0)
+    → (Netlist → List ℕ → Content → List (List ℕ) → List ℕ → ℕ → Type 0) → ProofJudgeView → ProofJudgeView
+    → Option Numbered → Result (Unit {0}) JudgeError → Type 0
+JudgesTaken Judges IsTrouble old new ended result = (reader : ProofReaderView) (line : List ℕ)
+    → ProofCalled reader old.reader line (Ok ended)
+    → ProofJudged Judges IsTrouble (record old { reader = reader }) new line result

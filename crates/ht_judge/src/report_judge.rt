@@ -1,19 +1,16 @@
 //! A judge of a report.
-ghost use Rattle.std.specs.Prelude.{◌≡◌, ◌↔◌, ◌++◌, [], true, List, Bool, ℕ, length, IsTrue, IfOk, IfErr, OnOk};
+ghost use Rattle.std.specs.Prelude.{◌≡◌, ◌↔◌, ◌++◌, [], true, List, Bool, ℕ, IsTrue, IfOk, IfErr, OnOk};
 ghost use Rattle.ht_tern.specs.declared.tern.Tern as tern;
 ghost use Rattle.ht_faults.specs.Sites.{faults_of};
 ghost use Rattle.ht_faults.specs.Classes.{AreClasses};
 ghost use Rattle.ht_proofs.specs.Detections.{AreFirstDetections, place_at};
 ghost use Rattle.ht_texts.specs.SearchReports.{IsBudget};
-ghost use Rattle.ht_valid.specs.declared.trouble.Trouble.TheVariants as trouble;
-ghost use Rattle.ht_judge.specs.declared.judge_error.JudgeError.TheVariants as error;
 ghost use Rattle.ht_judge.specs.ReportJudging.{AgreesWithPlace, AgreesWithPlaces, budget_with, saids_in, JudgesReport, ReportJudged, IsTrueReport, ReportEndHasCause};
 
-use crate::judge_error::JudgeError;
+use crate::judge_error::{JudgeError, wrong_line};
 use ht_faults::{Classes, FaultList};
 use ht_net::{Circuit, Place};
 use ht_texts::{Item, ReportReader, Said};
-use ht_valid::Trouble;
 use std::alloc::{AllocError, Global};
 use std::marker::Model;
 
@@ -47,15 +44,6 @@ impl<'c> Model for ReportJudge<'c> {
     ghost view = { report_judge_view };
 
     ghost invariant = { KeepsReport };
-}
-
-// A line of the report is the first trouble.
-fn denied(line: u64) -> JudgeError
-    ensures { result ≡ error.Denied (trouble.Report line) }
-{
-    JudgeError::Denied {
-        trouble: Trouble::Report { line },
-    }
 }
 
 // The first detection of a fault, or none where the number is of no fault.
@@ -169,11 +157,11 @@ impl<'c> ReportJudge<'c> {
         self.live = false;
         let item = match self.reader.line(line) {
             Ok(item) => item,
-            Err(malformed) => return Err(denied(malformed.line)),
+            Err(malformed) => return Err(wrong_line(malformed.line)),
         };
         if !agrees(self.detections, item) {
             // after the head there is a line for each fault
-            return Err(denied(self.saids.len() as u64 + 2));
+            return Err(wrong_line(self.saids.len() as u64 + 2));
         }
         keep(&mut self.budget, &mut self.saids, item)?;
         self.live = true;
@@ -199,7 +187,7 @@ impl<'c> ReportJudge<'c> {
                 budget: self.budget,
                 saids: self.saids,
             }),
-            Err(malformed) => Err(denied(malformed.line)),
+            Err(malformed) => Err(wrong_line(malformed.line)),
         }
     }
 }

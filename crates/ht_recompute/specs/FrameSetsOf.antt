@@ -10,6 +10,7 @@ use Rattle.ht_net.specs.Frame.{frame_outputs, next_state}
 use Rattle.ht_tree.specs.declared.window.Spot.{Spot}
 use Rattle.ht_tree.specs.declared.window.Spot.TheVariants.{Output, State, Cube}
 use Rattle.ht_tree.specs.Windows.{pair_set_rules}
+use Rattle.ht_recompute.specs.declared.frame_sets.FrameEnds.{FrameEnds}
 use Rattle.ht_recompute.specs.declared.frame_sets.FrameSets.TheInside.{Inside}
 
 -- A circuit and a fault, with the sets of the latches, and those that the outputs hold.
@@ -24,8 +25,8 @@ abbrev pub frame_state : Inside → FrameState
 frame_state a = record {
   circuit = a.kept.circuit;
   fault = a.fault;
-  latches = a.latches.items;
-  outputs = a.outputs.items;
+  latches = a.ends.latches.items;
+  outputs = a.ends.outputs.items;
 }
 
 -- the set at a place after a frame: an output's, or what a flip-flop took
@@ -34,12 +35,16 @@ set_in s (Output o) = get_or s.outputs o []
 set_in s (State j) = get_or s.latches j []
 set_in s Cube = []
 
--- Each field is as long as what it has values for, and a frame is kept.
+-- There is a set for each input, flip-flop and output of a circuit.
+pub record AreEndsOf (c : Netlist) (ends : FrameEnds) : Type 0 where
+  pub vector : length ends.vector.items ≡ c.inputs
+  pub latches : length ends.latches.items ≡ length c.dffs
+  pub outputs : length ends.outputs.items ≡ length c.outputs
+
+-- The sets are those of the circuit, and a frame is kept.
 pub record HasRoom (a : Inside) : Type 0 where
   pub circuit : IsCircuit a.kept.circuit
-  pub vector : length a.vector.items ≡ a.kept.circuit.inputs
-  pub latches : length a.latches.items ≡ length a.kept.circuit.dffs
-  pub outputs : length a.outputs.items ≡ length a.kept.circuit.outputs
+  pub ends : AreEndsOf a.kept.circuit a.ends
   pub some : 0 < a.kept.count
 
 -- the sets of so many inputs, from what was decided for the variables from first on

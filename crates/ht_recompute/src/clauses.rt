@@ -22,24 +22,24 @@ fn latch_value(decisions: &[Option<Tern>], first: u32, literal: Literal) -> Opti
     }
 }
 
-// Whether a latch was decided to a bit.
-fn is_decided_to(bit: bool, value: Option<Tern>) -> bool
-    ensures { result ≡ is_decided_to bit value }
+// Whether a literal's latch was decided to its bit.
+fn meets_literal(decisions: &[Option<Tern>], first: u32, literal: Literal) -> bool
+    ensures { result ≡ is_decided_to literal.value (value_in decisions.now first literal) }
 {
-    match value {
-        Some(Tern::Zero) => !bit,
-        Some(Tern::One) => bit,
+    match latch_value(decisions, first, literal) {
+        Some(Tern::Zero) => !literal.value,
+        Some(Tern::One) => literal.value,
         Some(Tern::Unk) | None => false,
     }
 }
 
-// Whether a latch was decided to another value.
-fn is_decided_against(bit: bool, value: Option<Tern>) -> bool
-    ensures { result ≡ is_decided_against bit value }
+// Whether a literal's latch was decided to another value.
+fn breaks_literal(decisions: &[Option<Tern>], first: u32, literal: Literal) -> bool
+    ensures { result ≡ is_decided_against literal.value (value_in decisions.now first literal) }
 {
-    match value {
-        Some(Tern::Zero) => bit,
-        Some(Tern::One) => !bit,
+    match latch_value(decisions, first, literal) {
+        Some(Tern::Zero) => literal.value,
+        Some(Tern::One) => !literal.value,
         Some(Tern::Unk) => true,
         None => false,
     }
@@ -49,14 +49,10 @@ fn is_decided_against(bit: bool, value: Option<Tern>) -> bool
 fn meets(decisions: &[Option<Tern>], first: u32, clause: &Clause) -> bool
     ensures { result ≡ meets_in decisions.now first (literals_of clause.now) }
 {
-    let met = is_decided_to(
-        clause.first.value,
-        latch_value(decisions, first, clause.first),
-    );
+    let met = meets_literal(decisions, first, clause.first);
     match clause.second {
         None => met,
-        Some(literal) => met
-            || is_decided_to(literal.value, latch_value(decisions, first, literal)),
+        Some(literal) => met || meets_literal(decisions, first, literal),
     }
 }
 
@@ -64,15 +60,10 @@ fn meets(decisions: &[Option<Tern>], first: u32, clause: &Clause) -> bool
 fn breaks(decisions: &[Option<Tern>], first: u32, clause: &Clause) -> bool
     ensures { result ≡ breaks_in decisions.now first (literals_of clause.now) }
 {
-    let lost = is_decided_against(
-        clause.first.value,
-        latch_value(decisions, first, clause.first),
-    );
+    let lost = breaks_literal(decisions, first, clause.first);
     match clause.second {
         None => lost,
-        Some(literal) => {
-            lost && is_decided_against(literal.value, latch_value(decisions, first, literal))
-        },
+        Some(literal) => lost && breaks_literal(decisions, first, literal),
     }
 }
 

@@ -6,7 +6,7 @@ ghost use Rattle.ht_net.specs.declared.fault.Fault.{Fault};
 ghost use Rattle.ht_net.specs.Netlist.{IsCircuit};
 ghost use Rattle.ht_tree.specs.Places.{IsSpot};
 ghost use Rattle.ht_recompute.specs.FreshStarts.{IsStartOf, latches_by};
-ghost use Rattle.ht_recompute.specs.FrameSetsOf.{frame_after, inputs_by, latches_after, outputs_of_frame, set_in};
+ghost use Rattle.ht_recompute.specs.FrameSetsOf.{AreEndsOf, frame_after, inputs_by, latches_after, outputs_of_frame, set_in};
 ghost use Rattle.ht_recompute.specs.Differences.{differences_in};
 
 use crate::decisions::write_inputs;
@@ -20,15 +20,20 @@ use ht_tree::Spot;
 use std::alloc::{AllocError, Global};
 use std::marker::Model;
 
+// The sets at the ends of a frame: of its inputs, of its latches, and of what its outputs show.
+#[derive(Drop)]
+struct FrameEnds {
+    vector: Vec<PairSet>,
+    latches: Vec<PairSet>,
+    outputs: Vec<PairSet>,
+}
+
 /// A frame of the good and of the faulty machine, or of the good machine alone, over sets of pairs. All room is taken
 /// once, when it is made.
 #[derive(Drop)]
 pub struct FrameSets<'c> {
     fault: Option<Fault>,
-    // the sets of the inputs, of the latches, and of what the outputs show
-    vector: Vec<PairSet>,
-    latches: Vec<PairSet>,
-    outputs: Vec<PairSet>,
+    ends: FrameEnds,
     // the nets of each frame, so that one settles from where it was at the node before
     kept: KeptFrames<'c>,
     // which of the frames that are kept is the first one here
@@ -54,6 +59,19 @@ fn room_for(alloc: Global, count: usize) -> Result<Vec<PairSet>, AllocError>
     vec![in alloc; PairSet::both_same(); count]
 }
 
+impl FrameEnds {
+    // Room for those of a circuit.
+    fn new(alloc: Global, circuit: &Circuit) -> Result<FrameEnds, AllocError>
+        ensures { IfOk result (AreEndsOf circuit.now) }
+    {
+        Ok(FrameEnds {
+            vector: room_for(alloc, circuit.inputs() as usize)?,
+            latches: room_for(alloc, circuit.dffs() as usize)?,
+            outputs: room_for(alloc, circuit.outputs() as usize)?,
+        })
+    }
+}
+
 impl<'c> FrameSets<'c> {
     /// So many frames of a fault, or of the good machine alone, and one at least: of the frames that are kept those
     /// from `first_kept` on. It makes more of these where there are too few.
@@ -70,16 +88,10 @@ impl<'c> FrameSets<'c> {
         ensures circuit { IfOk result (λ frame. frame.circuit ≡ kept.entry.circuit) }
         ensures fault { IfOk result (λ frame. frame.fault ≡ fault) }
     {
-        let circuit = kept.circuit();
-        let vector = room_for(alloc, circuit.inputs() as usize)?;
-        let latches = room_for(alloc, circuit.dffs() as usize)?;
-        let outputs = room_for(alloc, circuit.outputs() as usize)?;
         kept.make(alloc, first_kept.saturating_add(frames).max(1))?;
         Ok(FrameSets {
             fault,
-            vector,
-            latches,
-            outputs,
+            ends: FrameEnds::new(alloc, kept.circuit())?,
             kept,
             first_kept,
         })
@@ -102,7 +114,7 @@ impl<'c> FrameSets<'c> {
         } }
     {
         let inputs = self.kept.circuit().inputs() as usize;
-        write_latches(start, decisions, inputs, &mut self.latches);
+        write_latches(start, decisions, inputs, &mut self.ends.latches);
     }
 
     /// Runs frame `f`, whose inputs have the variables from `first` on: the outputs show what they hold, and the
@@ -112,13 +124,13 @@ impl<'c> FrameSets<'c> {
         ensures { self.new ≡ frame_after self.old
             (inputs_by decisions.now first self.old.circuit.inputs) }
     {
-        write_inputs(decisions, first, &mut self.vector);
+        write_inputs(decisions, first, &mut self.ends.vector);
         self.kept.run(
             self.first_kept.saturating_add(f),
             self.fault,
-            &self.vector,
-            &mut self.latches,
-            &mut self.outputs,
+            &self.ends.vector,
+            &mut self.ends.latches,
+            &mut self.ends.outputs,
         );
     }
 
@@ -135,7 +147,7 @@ impl<'c> FrameSets<'c> {
         ensures latches { result.now ≡ self.now.latches }
         ensures count { length result.now ≡ length self.now.circuit.dffs }
     {
-        &self.latches
+        &self.ends.latches
     }
 
     /// Whether a place must differ after a frame: an output, or the next state of a flip-flop.
@@ -144,8 +156,8 @@ impl<'c> FrameSets<'c> {
         ensures { result ≡ list_all differs (set_in self.now place) }
     {
         match place {
-            Spot::Output(o) => self.outputs[o as usize].must_differ(),
-            Spot::State(j) => self.latches[j as usize].must_differ(),
+            Spot::Output(o) => self.ends.outputs[o as usize].must_differ(),
+            Spot::State(j) => self.ends.latches[j as usize].must_differ(),
             // no place, so no set that may be equal
             Spot::Cube => true,
         }
@@ -155,7 +167,7 @@ impl<'c> FrameSets<'c> {
     pub fn differences(&self) -> Differences
         ensures { result ≡ differences_in self.now.outputs }
     {
-        output_differences(&self.outputs)
+        output_differences(&self.ends.outputs)
     }
 }
 

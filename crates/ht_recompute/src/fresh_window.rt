@@ -75,14 +75,12 @@ impl<'c, 's> FreshWindow<'c, 's> {
     {
         let inputs = kept.circuit().inputs() as usize;
         let dffs = kept.circuit().dffs() as usize;
-        let decisions = vec![in alloc; None; frames as usize * inputs + 2 * dffs]?;
-        let cube = vec![in alloc; Tern::Unk; dffs]?;
         let frame = FrameSets::new(alloc, kept, fault, first_kept(&start), frames)?;
         Ok(FreshWindow {
             frames,
             start,
-            decisions,
-            cube,
+            decisions: vec![in alloc; None; frames as usize * inputs + 2 * dffs]?,
+            cube: vec![in alloc; Tern::Unk; dffs]?,
             frame,
         })
     }

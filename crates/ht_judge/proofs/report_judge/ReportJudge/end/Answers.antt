@@ -11,4 +11,4 @@ pub returns-in-Err-clause-err : goal.returns-in-Err-clause-err
 returns-in-Err-clause-err c =
     rw (← c.self.view_is)
     (λ start list lines j. early_ends c.self.inside c.self.invariant start list lines j c.in-Err.malformed
-    c.denied.result c.denied.ensures c.in-Err.ensures)
+    c.wrong_line.result c.wrong_line.ensures c.in-Err.ensures)

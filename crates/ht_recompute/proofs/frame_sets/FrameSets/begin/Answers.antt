@@ -13,7 +13,7 @@ returns c =
     let start = c.args.start.now in
     let ds = c.args.decisions.now in
     let L : List (List Pair) = c.write_latches.new.latches in
-    let held = c.self.invariant.latches in
+    let held = c.self.invariant.ends.latches in
     let count : length c.deref_mut.result.now ≡ length n.dffs =
     let e = c.deref_mut.ensures.len in omega (arith, held, e) in
     let inputs : c.inputs-inputs.result ≡ n.inputs =
@@ -26,11 +26,11 @@ returns c =
     let whole : L ≡ latches_by start ds n =
     listed_by (first_latch_by (fresh_start start) ds n.inputs (length n.dffs)) 0 (length n.dffs) L []
     (let e = count in omega (arith, e)) each in
-    let items = with_items_is a.latches L (omega arith) ∙ whole in
+    let items = with_items_is a.ends.latches L (omega arith) ∙ whole in
     (λ i. record {
       circuit = n;
       fault = a.fault;
       latches = items i;
-      outputs = a.outputs.items;
+      outputs = a.ends.outputs.items;
     })
     ∙ (λ i. record (c.self.view_is i) { latches = latches_by start ds (c.self.view_is i).circuit })
