@@ -10,6 +10,7 @@ use std::cell::{Cell, RefCell};
 
 /// How a window starts: both machines in one state but for these flip-flops; all unknown; from a state of each machine;
 /// or one frame of the good machine alone, back to a cube of latches, with so many frames before it at most.
+#[derive(Clone)]
 pub enum Start {
     OneFrame { z: Vec<bool> },
     Unknown,
@@ -24,6 +25,15 @@ impl Start {
             Start::OneFrame { z } => z[j],
             Start::Pair { good, faulty } => good[j] != faulty[j],
             Start::Unknown | Start::Back { .. } => false,
+        }
+    }
+
+    fn kind(&self) -> usize {
+        match self {
+            Start::OneFrame { .. } => 0,
+            Start::Unknown => 1,
+            Start::Pair { .. } => 2,
+            Start::Back { .. } => 3,
         }
     }
 }
@@ -41,8 +51,8 @@ pub struct WindowPlace {
     pub spot: Spot,
 }
 
-/// How a window gets its sets: the first ones each net by itself, or from those of the circuit without a fault by events
-/// where a net matters, and later ones by events; or all anew whenever they are looked at.
+/// How a window gets its sets: the first ones each net by itself, or from those of a base by events where a net matters,
+/// and later ones by events; or all anew whenever they are looked at.
 #[derive(Clone, Copy, PartialEq, Eq)]
 pub enum Fill {
     Whole,
@@ -55,8 +65,8 @@ pub struct Plan<'c> {
     pub circuit: &'c Circuit,
     fill: Fill,
     pub readers: Rows,
-    /// The sets before any decision, frame by frame, by how a window starts.
-    bases: [RefCell<Vec<Set>>; 3],
+    /// The sets before any decision, by how a window starts.
+    bases: [RefCell<Base>; 4],
     /// How often a net of a frame was given its set.
     pub evaluations: Cell<u64>,
 }
@@ -70,31 +80,20 @@ impl<'c> Plan<'c> {
         let readers = Rows::gathered(circuit.nets(), latches.chain(gates));
         Plan { circuit, fill, readers, bases: Default::default(), evaluations: Cell::new(0) }
     }
+}
 
-    /// Writes the sets of a window without a fault. More frames than are asked for are kept for the next time.
-    fn copy_base(&self, frames: usize, start: &Start, cells: &mut Vec<Set>) {
-        let (which, start) = match start {
-            Start::OneFrame { z } => (0, Start::OneFrame { z: vec![false; z.len()] }),
-            Start::Unknown | Start::Pair { .. } => (1, Start::Unknown),
-            Start::Back { .. } => (2, Start::Back { cube: Vec::new(), limit: 0 }),
-        };
-        let mut base = self.bases[which].borrow_mut();
-        let count = frames * self.circuit.nets();
-        if base.len() < count {
-            let mut window = Window::new(self);
-            window.clear(None, if which == 1 { 2 * frames } else { 1 }, start);
-            window.fill_whole();
-            *base = window.cells;
-        }
-        cells.clear();
-        cells.extend_from_slice(&base[..count]);
-    }
+/// The sets of each frame of a window, and its fault. In a small circuit they follow the fault and the start of each window
+/// that is asked for; in a large one there is no fault.
+#[derive(Default)]
+struct Base {
+    fault: Option<Fault>,
+    cells: Vec<Set>,
 }
 
 const NONE: u32 = u32::MAX;
 const UNDECIDED: u8 = 3;
 /// The fewest nets of a circuit in which finding those that matter takes less time than it saves.
-const FEWEST_NETS: usize = 4_096;
+const FEWEST_NETS: usize = 2_500;
 
 /// The line that is stuck, if any, by its kind.
 #[derive(Clone, Copy)]
@@ -217,31 +216,51 @@ impl<'c> Window<'c> {
     }
 
     fn fill_by_events(&mut self, fault: Option<Fault>) {
-        let circuit = self.plan.circuit;
-        self.plan.copy_base(self.frames, &self.start, &mut self.cells);
-        if let Some(fault) = fault.filter(|_| circuit.nets() >= FEWEST_NETS) {
-            self.whole = false;
-            self.relevant.find(self.plan, fault, self.frames, &self.start);
+        let nets = self.plan.circuit.nets();
+        let is_small = nets < FEWEST_NETS;
+        let mut base = self.plan.bases[self.start.kind()].borrow_mut();
+        if base.cells.len() < self.frames * nets {
+            let fault = fault.filter(|_| is_small);
+            let mut window = Window::new(self.plan);
+            window.clear(fault, self.frames, self.start.clone());
+            window.fill_whole();
+            *base = Base { fault, cells: window.cells };
         }
-        let other_latches: Vec<usize> = match &self.start {
-            Start::OneFrame { z } => (0..z.len()).filter(|j| z[*j]).collect(),
-            Start::Pair { good, .. } => (0..good.len()).collect(),
-            Start::Unknown | Start::Back { .. } => Vec::new(),
-        };
-        for j in other_latches {
-            self.touch(0, circuit.inputs + j);
+        if is_small {
+            let mut window = Window::new(self.plan);
+            window.clear(fault, base.cells.len() / nets, self.start.clone());
+            std::mem::swap(&mut window.cells, &mut base.cells);
+            window.follow(base.fault);
+            *base = Base { fault, cells: window.cells };
         }
+        self.cells.clear();
+        self.cells.extend_from_slice(&base.cells[..self.frames * nets]);
+        if !is_small {
+            if let Some(fault) = fault {
+                self.whole = false;
+                self.relevant.find(self.plan, fault, self.frames, &self.start);
+            }
+            self.follow(base.fault);
+        }
+    }
+
+    /// Has the sets of another window, with the fault `before` and another start, follow by events.
+    fn follow(&mut self, before: Option<Fault>) {
         for frame in 0..self.frames {
-            self.touch_stuck(frame);
+            self.touch_line(frame, Stuck::of(before));
+            self.touch_line(frame, self.stuck);
+        }
+        for j in 0..self.plan.circuit.dffs() {
+            self.touch(0, self.plan.circuit.inputs + j);
         }
         self.settle();
         self.trail.clear();
     }
 
     /// The nets of a frame that a stuck line changes by itself.
-    fn touch_stuck(&mut self, frame: usize) {
+    fn touch_line(&mut self, frame: usize, line: Stuck) {
         let circuit = self.plan.circuit;
-        let Stuck { stem, data_pin, gate, .. } = self.stuck;
+        let Stuck { stem, data_pin, gate, .. } = line;
         if (stem as usize) < circuit.inputs {
             self.update(frame, stem as usize);
         } else if stem != NONE {

@@ -4,6 +4,7 @@ use Rattle.std.proofs.lemmas.Bool.{cases_Bool}
 use Rattle.std.proofs.lemmas.Bool.Decides.{eqb_tells}
 use Rattle.ht_pairs.specs.Pairs.{Pair}
 use Rattle.ht_net.specs.Netlist.{Netlist, net_count, first_gate_net}
+use Rattle.ht_net.specs.declared.fault.Fault.{Fault}
 use Rattle.ht_net.proofs.FrameLaws.{le_or_lt}
 use Rattle.ht_events.specs.Items.{item_at, item_count, frame_of, local_of, driven_net, IsReader}
 use Rattle.ht_events.specs.Plans.{PlanState}
@@ -129,21 +130,27 @@ this_latch c f x = elim (eqb_tells f 0) [
   ]
 ]
 
--- once the line and the latches of the first frame are renewed, each net that matters holds what it gets or is pending
-pub all_renewed : (s t : CoreState) (a b : HeldState) → HoldsElsewhere a → IsRenewed s a t b
+-- once both lines and the latches of the first frame are renewed, each net that matters holds what it gets or is pending
+pub all_renewed : (s t : CoreState) (a b : HeldState) (before : Option Fault) → HoldsElsewhere a before
+    → IsRenewed s a t b
+    → ((f x : ℕ) → f < a.standing.window.frames → x < net_count a.standing.window.circuit
+    → begins_at a.standing.window.circuit before x ≡ true → HoldsOrPends t b f x)
     → ((f x : ℕ) → f < a.standing.window.frames → x < net_count a.standing.window.circuit
     → begins_at a.standing.window.circuit a.standing.window.fault x ≡ true → HoldsOrPends t b f x)
     → ((x : ℕ) → a.standing.window.circuit.inputs ≤ x → x < first_gate_net a.standing.window.circuit
     → HoldsOrPends t b 0 x)
     → (f x : ℕ) → f < a.standing.window.frames → x < net_count a.standing.window.circuit → HoldsOrPends t b f x
-all_renewed s t a b elsewhere renewed new latches f x fs xs =
+all_renewed s t a b before elsewhere renewed old new latches f x fs xs =
     let w = a.standing.window in
     let c = w.circuit in
-    elim (cases_Bool (begins_at c w.fault x)) [
-      | inl n ↦ new f x fs xs n
-      | inr clear ↦ elim (this_latch c f x) [
-        | inl at ↦ subst (λ (g : ℕ). HoldsOrPends t b g x) (sym at.0) (latches x at.1 at.2)
-        | inr late ↦ renewed.holds f x fs xs (λ free m. elsewhere.holds f x fs xs clear late)
+    elim (cases_Bool (begins_at c before x)) [
+      | inl o ↦ old f x fs xs o
+      | inr far ↦ elim (cases_Bool (begins_at c w.fault x)) [
+        | inl n ↦ new f x fs xs n
+        | inr clear ↦ elim (this_latch c f x) [
+          | inl at ↦ subst (λ (g : ℕ). HoldsOrPends t b g x) (sym at.0) (latches x at.1 at.2)
+          | inr late ↦ renewed.holds f x fs xs (λ free m. elsewhere.holds f x fs xs far clear late)
+        ]
       ]
     ]
 

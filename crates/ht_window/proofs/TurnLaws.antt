@@ -1,5 +1,5 @@
 -- Which nets get the same under another fault and another start, and the cells of the first frames.
-use Rattle.std.proofs.Common.{◌≡◌, ◌<◌, ◌≤◌, ◌+◌, ◌*◌, ◌-◌, inl, inr, ℕ, suc, zero, List, Bool, true, false, Option, None, Some, cond, map, length, get_or, take, refl, sym, ◌∙◌, ap, arith, subst}
+use Rattle.std.proofs.Common.{◌≡◌, ◌<◌, ◌≤◌, ◌+◌, ◌*◌, ◌-◌, inl, inr, ℕ, suc, zero, List, Bool, true, false, Option, None, Some, Result, Ok, Err, IfOk, cond, map, length, get_or, take, refl, sym, ◌∙◌, ap, arith, subst}
 use Rattle.std.specs.List.{range_with_len}
 use Rattle.std.proofs.lemmas.Bool.Decides.{nat_tests}
 use Rattle.std.proofs.lemmas.List.{get_or-take}
@@ -150,31 +150,46 @@ module _ (w : SearchWindow) (path : List Assign3) (values : List (List Pair)) wh
         latch zero late at low = let high = late refl at in absurd (omega (arith, high, low))
         latch (suc g) late at low = refl
 
--- In a whole window of the good machine a net that the fault doesn't reach first, and that isn't a latch of the first
--- frame, holds its cell in the window of the fault from another start too.
-turned_hold : (w : SearchWindow) → IsWindow w → w.fault ≡ None → (path : List Assign3) (values : List (List Pair))
+-- In a whole window a net that neither fault reaches first, and that isn't a latch of the first frame, holds its cell in
+-- the window of another fault from another start too.
+turned_hold : (w : SearchWindow) → IsWindow w → (path : List Assign3) (values : List (List Pair))
     → AreCells w (λ f x. true) path values → (fault : Option Fault) (s : Start) (f x : ℕ) → f < w.frames
-    → x < net_count w.circuit → begins_at w.circuit fault x ≡ false
+    → x < net_count w.circuit → begins_at w.circuit w.fault x ≡ false → begins_at w.circuit fault x ≡ false
     → (f ≡ 0 → w.circuit.inputs ≤ x → first_gate_net w.circuit ≤ x)
     → HoldsValue (record w { fault = fault; start = s }) path values f x
-turned_hold w valid plain path values are fault s f x fs xs freed late =
+turned_hold w valid path values are fault s f x fs xs free freed late =
     let whole : IsClosedBack w.circuit w.frames (λ f x. true) = record {
       gates = λ f g i fs gs l m. refl;
       dffs = λ f j fs js m. refl;
     } in
     cells_hold w valid path (λ f x. true) whole values are f x fs xs refl
-    ∙ (unreached w path values f x (ap (λ (k : Option Fault). begins_at w.circuit k x) plain)
+    ∙ (unreached w path values f x free
     ∙ (other_start (good w) path values s f x late
     ∙ sym (unreached (record w { fault = fault; start = s }) path values f x freed)))
 
--- the cells of a whole window of the good machine under a fault and another start
-pub turned_elsewhere : (w : SearchWindow) → IsWindow w → w.fault ≡ None → (path : List Assign3) (b : HeldState)
+-- the cells of a whole window under another fault and another start
+pub turned_elsewhere : (w : SearchWindow) → IsWindow w → (path : List Assign3) (b : HeldState)
     (fault : Option Fault) (s : Start)
     → b.standing ≡ record { window = record w { fault = fault; start = s }; path = path }
-    → AreCells w (λ f x. true) path b.cells.values → HoldsElsewhere b
-turned_elsewhere w valid plain path b fault s is are =
-    subst (λ (n : Standing). HoldsElsewhere (record { standing = n; cells = b.cells; relevant = b.relevant })) (sym is)
-    (record { holds = turned_hold w valid plain path b.cells.values are fault s })
+    → AreCells w (λ f x. true) path b.cells.values → HoldsElsewhere b w.fault
+turned_elsewhere w valid path b fault s is are =
+    subst (λ (n : Standing). HoldsElsewhere (record { standing = n; cells = b.cells; relevant = b.relevant }) w.fault)
+    (sym is)
+    (record { holds = turned_hold w valid path b.cells.values are fault s })
+
+-- this rests on the window, the decisions and the cells alone
+pub still_elsewhere : (a b : HeldState) (before : Option Fault) → b.standing ≡ a.standing
+    → b.cells.values ≡ a.cells.values → HoldsElsewhere a before → HoldsElsewhere b before
+still_elsewhere a b before standing values h =
+    subst (λ (n : Standing). HoldsElsewhere (record { standing = n; cells = b.cells; relevant = b.relevant }) before)
+    (sym standing)
+    (record {
+      holds = subst (λ (l : List (List Pair)). (f x : ℕ) → f < a.standing.window.frames
+          → x < net_count a.standing.window.circuit → begins_at a.standing.window.circuit before x ≡ false
+          → begins_at a.standing.window.circuit a.standing.window.fault x ≡ false
+          → (f ≡ 0 → a.standing.window.circuit.inputs ≤ x → first_gate_net a.standing.window.circuit ≤ x)
+          → HoldsValue a.standing.window a.standing.path l f x) (sym values) h.holds;
+    })
 
 module _ (w : SearchWindow) (path : List Assign3) (n : ℕ) where
   latches_front : (f : ℕ) → latches_at (record w { frames = n }) path f ≡ latches_at w path f
@@ -194,3 +209,9 @@ module _ (w : SearchWindow) (path : List Assign3) (n : ℕ) where
         ∙ sym (ap (λ (L : List (List Pair)). net_value w.circuit (pair_set_rules w.fault) (frame_inputs w path f) L x)
         (latches_front f)));
   }
+
+-- what two facts of a value say together
+pub of_two : {X Y : Type 0} → (r : Result X Y) → {P Q R : X → Type 0} → ((x : X) → P x → Q x → R x) → IfOk r P
+    → IfOk r Q → IfOk r R
+of_two (Ok x) f p q = f x p q
+of_two (Err e) f p q = p

@@ -1,6 +1,7 @@
 -- A window whose cells follow another fault and another start: which nets that reaches first, and what holds meanwhile.
-use Rattle.std.specs.Prelude.{◌≡◌, ◌<◌, ◌≤◌, ◌-◌, ℕ, false}
+use Rattle.std.specs.Prelude.{◌≡◌, ◌<◌, ◌≤◌, ◌-◌, ℕ, false, Option}
 use Rattle.ht_net.specs.Netlist.{net_count, first_gate_net}
+use Rattle.ht_net.specs.declared.fault.Fault.{Fault}
 use Rattle.ht_events.specs.Items.{item_at}
 use Rattle.ht_events.specs.Pending.{CoreState, IsPending}
 use Rattle.ht_relevant.specs.Reached.{begins_at}
@@ -21,10 +22,11 @@ pub record IsRenewed (s : CoreState) (a : HeldState) (t : CoreState) (b : HeldSt
   pub holds : (f x : ℕ) → f < a.standing.window.frames → x < net_count a.standing.window.circuit
       → HoldsOrPends s a f x → HoldsOrPends t b f x
 
--- Each net holds what it gets, but for those that the fault of the window reaches first, and for the latches of the first
--- frame.
-pub record HoldsElsewhere (h : HeldState) : Type 0 where
+-- Each net holds what it gets, but for those that this fault or that of the window reaches first, and for the latches of
+-- the first frame.
+pub record HoldsElsewhere (h : HeldState) (before : Option Fault) : Type 0 where
   pub holds : (f x : ℕ) → f < h.standing.window.frames → x < net_count h.standing.window.circuit
+      → begins_at h.standing.window.circuit before x ≡ false
       → begins_at h.standing.window.circuit h.standing.window.fault x ≡ false
       → (f ≡ 0 → h.standing.window.circuit.inputs ≤ x → first_gate_net h.standing.window.circuit ≤ x)
       → HoldsValue h.standing.window h.standing.path h.cells.values f x

@@ -2,8 +2,9 @@
 ghost use Rattle.std.specs.Prelude.{◌≡◌, ◌<◌, ◌≤◌, [], length, IfOk, IfSome};
 ghost use Rattle.ht_tree.specs.Windows.{IsStart};
 ghost use Rattle.ht_window.specs.Starts.{start_of, window_from};
-ghost use Rattle.ht_window.specs.BaseStates.{BasesState, IsBase};
+ghost use Rattle.ht_window.specs.BaseStates.{BasesState, IsBase, IsBaseFor};
 
+use crate::restrict::is_small;
 use crate::start::Start;
 use crate::window::Window;
 use ht_events::{FramePlan, MAX_FRAMES};
@@ -13,8 +14,10 @@ use std::marker::Model;
 use std::mem;
 use std::rc::Rc;
 
-/// Windows of the good machine before their first decision, for each kind of start one that never changes. A window that
-/// is asked for is a copy of the first frames of one of them, and follows its fault and its start by events.
+/// Windows before their first decision, one for each kind of start, of whose first frames a window that is asked for is
+/// made. In a small circuit they follow the fault and the start of each window, by events: windows of one frame, two frames
+/// and so on are asked for one after the other, and those of two faults are much alike after some frames. In a large one
+/// they are of the good machine and never change, and the nets that matter follow in the window that is made.
 #[derive(Drop)]
 pub struct Bases<'c> {
     frame_plan: Rc<FramePlan<'c>>,
@@ -35,12 +38,12 @@ impl<'c> Model for Bases<'c> {
 }
 
 // Where the base of a start's kind stands, if there is one.
-fn find_base(windows: &[Window], start: &Start) -> Option<usize>
+fn find_like(windows: &[Window], start: &Start) -> Option<usize>
     ensures { IfSome result (λ i. i < length windows.now) }
 {
     windows
         .iter()
-        .position(|window| window.start().is_base_of(start))
+        .position(|window| window.start().is_like(start))
 }
 
 impl<'c> Bases<'c> {
@@ -98,7 +101,7 @@ impl<'c> Bases<'c> {
         ensures circuit { self.new.circuit ≡ self.old.circuit }
         ensures base { IfSome result (IsBase self.old.circuit) }
     {
-        let index = find_base(&self.windows, start)?;
+        let index = find_like(&self.windows, start)?;
         Some(self.windows.swap_remove(index))
     }
 
@@ -111,7 +114,7 @@ impl<'c> Bases<'c> {
         Ok(())
     }
 
-    // A new base for a start.
+    // A new base for a start, in a small circuit with the fault.
     fn new_base(
         &self,
         alloc: Global,
@@ -121,13 +124,15 @@ impl<'c> Bases<'c> {
     ) -> Result<Window<'c>, AllocError>
         requires frames { frames ≤ MAX_FRAMES }
         requires start { IsStart self.now.circuit fault frames (start_of start.now) }
-        ensures base { IfOk result (IsBase self.now.circuit) }
-        ensures few { IfOk result (λ w. frames ≤ w.window.frames) }
-        ensures start { IfOk result (λ w. IsStart self.now.circuit None frames w.window.start) }
+        ensures { IfOk result (IsBaseFor self.now.circuit frames (start_of start.now)) }
     {
-        let start = start.base(alloc)?;
+        let fault = if is_small(self.circuit()) {
+            fault
+        } else {
+            None
+        };
         let frame_plan = self.frame_plan.clone()?;
-        Window::planned(alloc, frame_plan, None, frames, &start)
+        Window::planned(alloc, frame_plan, fault, frames, start)
     }
 
     // The base of a start's kind, or a new one where it has fewer frames than these.
@@ -141,20 +146,60 @@ impl<'c> Bases<'c> {
         requires frames { frames ≤ MAX_FRAMES }
         requires start { IsStart self.old.circuit fault frames (start_of start.now) }
         ensures circuit { self.new.circuit ≡ self.old.circuit }
-        ensures base { IfOk result (IsBase self.old.circuit) }
-        ensures few { IfOk result (λ w. frames ≤ w.window.frames) }
-        ensures start { IfOk result (λ w. IsStart self.old.circuit None frames w.window.start) }
+        ensures base { IfOk result (IsBaseFor self.old.circuit frames (start_of start.now)) }
     {
         if let Some(base) = self.take(start) {
-            if base.has_front(frames) {
+            if base.has_front(frames, start) {
                 return Ok(base);
             }
         }
         self.new_base(alloc, fault, frames, start)
     }
 
-    // The window of a fault from a start, made of the first frames of a base.
+    // The window of a fault from a start, made of the first frames of a base that stays as it is.
+    fn restricted(
+        &self,
+        alloc: Global,
+        base: &Window<'c>,
+        fault: Option<Fault>,
+        frames: u32,
+        start: &Start,
+    ) -> Result<Window<'c>, AllocError>
+        requires base { IsBaseFor self.now.circuit frames (start_of start.now) base.now }
+        requires start { IsStart self.now.circuit fault frames (start_of start.now) }
+        ensures window { IfOk result
+            (λ w. w.window ≡ window_from self.now.circuit fault frames start.now) }
+        ensures decisions { IfOk result (λ w. w.decisions ≡ []) }
+        ensures marks { IfOk result (λ w. w.marks ≡ []) }
+    {
+        let frame_plan = self.frame_plan.clone()?;
+        base.restricted(alloc, frame_plan, fault, frames, start)
+    }
+
+    // The base that has followed the fault and the start.
     fn turned(
+        &self,
+        alloc: Global,
+        base: Window<'c>,
+        fault: Option<Fault>,
+        frames: u32,
+        start: &Start,
+    ) -> Result<Window<'c>, AllocError>
+        requires base { IsBaseFor self.now.circuit frames (start_of start.now) base }
+        requires start { IsStart self.now.circuit fault frames (start_of start.now) }
+        ensures base { IfOk result (IsBase self.now.circuit) }
+        ensures few { IfOk result (λ w. frames ≤ w.window.frames) }
+        ensures fault { IfOk result (λ w. w.window.fault ≡ fault) }
+        ensures start { IfOk result (λ w. w.window.start ≡ start_of start.now) }
+    {
+        if base.is_of(fault, start) {
+            return Ok(base);
+        }
+        base.turned(alloc, self.frame_plan.clone()?, fault, start)
+    }
+
+    // The window of a fault from a start, made of the first frames of a base that is of this fault from this start.
+    fn front(
         &self,
         alloc: Global,
         base: &Window<'c>,
@@ -164,7 +209,8 @@ impl<'c> Bases<'c> {
     ) -> Result<Window<'c>, AllocError>
         requires base { IsBase self.now.circuit base.now }
         requires few { frames ≤ base.now.window.frames }
-        requires front { IsStart self.now.circuit None frames base.now.window.start }
+        requires fault { base.now.window.fault ≡ fault }
+        requires from { base.now.window.start ≡ start_of start.now }
         requires start { IsStart self.now.circuit fault frames (start_of start.now) }
         ensures window { IfOk result
             (λ w. w.window ≡ window_from self.now.circuit fault frames start.now) }
@@ -172,7 +218,52 @@ impl<'c> Bases<'c> {
         ensures marks { IfOk result (λ w. w.marks ≡ []) }
     {
         let frame_plan = self.frame_plan.clone()?;
-        base.turned(alloc, frame_plan, fault, frames, start)
+        base.front(alloc, frame_plan, frames)
+    }
+
+    // The window of a fault from a start, of a base that follows them.
+    fn window_of_following(
+        &mut self,
+        alloc: Global,
+        fault: Option<Fault>,
+        frames: u32,
+        start: &Start,
+    ) -> Result<Window<'c>, AllocError>
+        requires frames { frames ≤ MAX_FRAMES }
+        requires start { IsStart self.old.circuit fault frames (start_of start.now) }
+        ensures circuit { self.new.circuit ≡ self.old.circuit }
+        ensures window { IfOk result
+            (λ w. w.window ≡ window_from self.old.circuit fault frames start.now) }
+        ensures decisions { IfOk result (λ w. w.decisions ≡ []) }
+        ensures marks { IfOk result (λ w. w.marks ≡ []) }
+    {
+        let base = self.base(alloc, fault, frames, start)?;
+        let base = self.turned(alloc, base, fault, frames, start)?;
+        let made = self.front(alloc, &base, fault, frames, start);
+        self.keep(base)?;
+        made
+    }
+
+    // The window of a fault from a start, of a base that stays as it is.
+    fn window_of_good(
+        &mut self,
+        alloc: Global,
+        fault: Option<Fault>,
+        frames: u32,
+        start: &Start,
+    ) -> Result<Window<'c>, AllocError>
+        requires frames { frames ≤ MAX_FRAMES }
+        requires start { IsStart self.old.circuit fault frames (start_of start.now) }
+        ensures circuit { self.new.circuit ≡ self.old.circuit }
+        ensures window { IfOk result
+            (λ w. w.window ≡ window_from self.old.circuit fault frames start.now) }
+        ensures decisions { IfOk result (λ w. w.decisions ≡ []) }
+        ensures marks { IfOk result (λ w. w.marks ≡ []) }
+    {
+        let base = self.base(alloc, fault, frames, start)?;
+        let made = self.restricted(alloc, &base, fault, frames, start);
+        self.keep(base)?;
+        made
     }
 
     /// A window of `frames` frames from a start, before its first decision.
@@ -194,9 +285,10 @@ impl<'c> Bases<'c> {
         ensures decisions { IfOk result (λ w. w.decisions ≡ []) }
         ensures marks { IfOk result (λ w. w.marks ≡ []) }
     {
-        let base = self.base(alloc, fault, frames, start)?;
-        let made = self.turned(alloc, &base, fault, frames, start);
-        self.keep(base)?;
-        made
+        if is_small(self.circuit()) {
+            self.window_of_following(alloc, fault, frames, start)
+        } else {
+            self.window_of_good(alloc, fault, frames, start)
+        }
     }
 }

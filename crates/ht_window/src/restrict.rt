@@ -12,13 +12,18 @@ use crate::decided::{Decided, is_set, value_at};
 use crate::held::Held;
 use crate::start::Start;
 use ht_events::{FramePlan, MAX_FRAMES};
-use ht_net::Fault;
+use ht_net::{Circuit, Fault};
 use ht_relevant::{Relevant, find_relevant};
 use ht_tern::Tern;
 use std::alloc::{AllocError, Global};
 
 // The fewest nets of a circuit in which finding those that matter takes less time than it saves.
-const FEWEST_NETS: u32 = 4_096;
+const FEWEST_NETS: u32 = 2_500;
+
+/// Whether a circuit is too small for finding the nets that matter to save time.
+pub fn is_small(circuit: &Circuit) -> bool {
+    circuit.nets() < FEWEST_NETS
+}
 
 // A mark for each flip-flop at which two states differ.
 fn differences(
@@ -104,7 +109,7 @@ pub fn restrict(alloc: Global, frame_plan: &FramePlan, held: &mut Held) -> Resul
     let Some(fault) = decided.fault() else {
         return Ok(());
     };
-    if decided.circuit().nets() < FEWEST_NETS {
+    if is_small(decided.circuit()) {
         return Ok(());
     }
     let relevant = relevant_to(alloc, decided, frame_plan, fault)?;

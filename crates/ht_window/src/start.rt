@@ -1,8 +1,5 @@
 //! What the latches of a window's first frame are.
-ghost use Rattle.std.specs.Prelude.{◌≡◌, ℕ, Option, None, IfOk};
-ghost use Rattle.ht_net.specs.Netlist.{Netlist};
-ghost use Rattle.ht_net.specs.declared.fault.Fault.{Fault};
-ghost use Rattle.ht_tree.specs.Windows.{IsStart};
+ghost use Rattle.std.specs.Prelude.{◌≡◌, IsTrue, IfOk};
 ghost use Rattle.ht_window.specs.Starts.{start_of};
 
 use ht_items::Items;
@@ -65,32 +62,31 @@ impl Start {
         })
     }
 
-    // The start of the base from which windows from this one are made: latches alike in the place of a set, and unknown
-    // in the place of two states.
-    pub(crate) fn base(&self, alloc: Global) -> Result<Start, AllocError>
-        ensures { IfOk result (λ start. (c : Netlist) → (fault : Option Fault) → (frames : ℕ)
-            → IsStart c fault frames (start_of self.now) → IsStart c None frames (start_of start)) }
-    {
-        match self {
-            Start::OneFrame { z: _ } => Ok(Start::OneFrame {
-                z: Items::new(alloc),
-            }),
-            Start::Unknown | Start::Pair { state: _ } => Ok(Start::Unknown),
-            Start::Back { cube: _, limit: _ } => self.copied(alloc),
-        }
-    }
-
-    // Whether this is the start of the base from which windows from another are made.
-    pub(crate) fn is_base_of(&self, other: &Start) -> bool {
+    // Whether two starts are of the same kind.
+    pub(crate) fn is_like(&self, other: &Start) -> bool {
         matches!(
             (self, other),
             (Start::OneFrame { z: _ }, Start::OneFrame { z: _ })
                 | (Start::Unknown, Start::Unknown)
-                | (Start::Unknown, Start::Pair { state: _ })
+                | (Start::Pair { state: _ }, Start::Pair { state: _ })
                 | (
                     Start::Back { cube: _, limit: _ },
                     Start::Back { cube: _, limit: _ }
                 )
         )
+    }
+
+    // Whether another start is the same, of the kinds that windows of any number of frames may have.
+    pub(crate) fn is_same(&self, other: &Start) -> bool
+        ensures { IsTrue result → start_of self.now ≡ start_of other.now }
+    {
+        match (self, other) {
+            (Start::Unknown, Start::Unknown) => true,
+            (Start::Pair { state }, Start::Pair { state: others }) => {
+                state.good.as_slice() == others.good.as_slice()
+                    && state.bad.as_slice() == others.bad.as_slice()
+            },
+            _ => false,
+        }
     }
 }

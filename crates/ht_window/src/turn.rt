@@ -103,16 +103,21 @@ fn renew_latches(held: &mut Held, core: &mut Core) -> Result<(), AllocError>
     Ok(())
 }
 
-/// Lets cells follow, by events, where they were those of the same window but without a fault and from another start.
+/// Lets cells follow, by events, where they were those of the same window but with the fault `before` and from another
+/// start.
 ///
 /// # Errors
 /// Out of memory.
-pub fn follow_turn(held: &mut Held, core: &mut Core) -> Result<(), AllocError>
+pub fn follow_turn(
+    held: &mut Held,
+    core: &mut Core,
+    before: Option<Fault>,
+) -> Result<(), AllocError>
     requires circuit { core.old.plan.circuit ≡ held.old.standing.window.circuit }
     requires frames { core.old.plan.frames ≡ held.old.standing.window.frames }
     requires closed { IsClosedBack held.old.standing.window.circuit
         held.old.standing.window.frames (is_relevant held.old.relevant) }
-    requires holds { HoldsElsewhere held.old }
+    requires holds { HoldsElsewhere held.old before }
     ensures plan { OnOk result (core.new.plan ≡ core.old.plan) }
     ensures standing { OnOk result (held.new.standing ≡ held.old.standing) }
     ensures relevant { OnOk result (held.new.relevant ≡ held.old.relevant) }
@@ -120,6 +125,7 @@ pub fn follow_turn(held: &mut Held, core: &mut Core) -> Result<(), AllocError>
         (is_relevant held.old.relevant) held.old.standing.path held.new.cells.values) }
 {
     let fault = held.decided().fault();
+    renew_line(held, core, before)?;
     renew_line(held, core, fault)?;
     renew_latches(held, core)?;
     core.settle(held)?;

@@ -14,7 +14,8 @@ use Rattle.ht_window.proofs.turn.follow_turn.Goals as goal
 
 pub returns-clause-relevant : goal.returns-clause-relevant
 returns-clause-relevant c = c.in_ok-settle.ensures.keeps.relevant
-    ∙ (c.in_ok-renew_latches.ensures.renewed.relevant ∙ c.in_ok-renew_line.ensures.renewed.relevant)
+    ∙ (c.in_ok-renew_latches.ensures.renewed.relevant ∙ (c.in_ok-renew_line-2.ensures.renewed.relevant
+    ∙ c.in_ok-renew_line.ensures.renewed.relevant))
 
 pub returns-clause-cells : goal.returns-clause-cells
 returns-clause-cells c =
@@ -22,23 +23,34 @@ returns-clause-cells c =
     let a = c.args.held.now in
     let s1 = c.renew_line.new.core in
     let a1 = c.renew_line.new.held in
+    let s2 = c.renew_line-2.new.core in
+    let a2 = c.renew_line-2.new.held in
     let t = c.renew_latches.new.core in
     let b = c.renew_latches.new.held in
     let one = c.in_ok-renew_line.ensures in
-    let two = c.in_ok-renew_latches.ensures in
-    let whole = renewed_more s s1 t a a1 b one.renewed two.renewed in
+    let two = c.in_ok-renew_line-2.ensures in
+    let three = c.in_ok-renew_latches.ensures in
+    let first = renewed_more s s1 s2 a a1 a2 one.renewed two.renewed in
+    let last = renewed_more s1 s2 t a1 a2 b two.renewed three.renewed in
+    let whole = renewed_more s s2 t a a2 b first three.renewed in
     let fault = c.fault-fault.ensures ∙ ap (λ (n : Standing). n.window.fault) c.decided.ensures.standing in
+    let before : (f x : ℕ) → f < a.standing.window.frames → x < net_count a.standing.window.circuit
+    → begins_at a.standing.window.circuit c.args.before x ≡ true → HoldsOrPends t b f x = λ f x fs xs reached.
+    subst (λ (n : Standing). (g y : ℕ) → g < n.window.frames → y < net_count n.window.circuit → HoldsOrPends s1 a1 g y
+    → HoldsOrPends t b g y) one.renewed.standing last.holds f x fs xs (one.holds f x fs xs reached) in
     let now : (f x : ℕ) → f < a.standing.window.frames → x < net_count a.standing.window.circuit
     → begins_at a.standing.window.circuit a.standing.window.fault x ≡ true → HoldsOrPends t b f x =
     λ f x fs xs reached.
-    subst (λ (n : Standing). (g y : ℕ) → g < n.window.frames → y < net_count n.window.circuit → HoldsOrPends s1 a1 g y
-    → HoldsOrPends t b g y) one.renewed.standing two.renewed.holds f x fs xs
-    (one.holds f x fs xs (ap (λ (o : Option Fault). begins_at a.standing.window.circuit o x) fault ∙ reached)) in
+    subst (λ (n : Standing). (g y : ℕ) → g < n.window.frames → y < net_count n.window.circuit → HoldsOrPends s2 a2 g y
+    → HoldsOrPends t b g y) first.standing three.renewed.holds f x fs xs
+    (subst (λ (n : Standing). (g y : ℕ) → g < n.window.frames → y < net_count n.window.circuit
+    → begins_at n.window.circuit c.fault-fault.result y ≡ true → HoldsOrPends s2 a2 g y) one.renewed.standing two.holds
+    f x fs xs (ap (λ (o : Option Fault). begins_at a.standing.window.circuit o x) fault ∙ reached)) in
     let latches : (x : ℕ) → a.standing.window.circuit.inputs ≤ x → x < first_gate_net a.standing.window.circuit
     → HoldsOrPends t b 0 x =
     subst (λ (n : Standing). (x : ℕ) → n.window.circuit.inputs ≤ x → x < first_gate_net n.window.circuit
-    → HoldsOrPends t b 0 x) one.renewed.standing two.holds in
-    let all = all_renewed s t a b c.requires.holds whole now latches in
+    → HoldsOrPends t b 0 x) first.standing three.holds in
+    let all = all_renewed s t a b c.args.before c.requires.holds whole before now latches in
     let plan = plan_renewed s t a b whole c.requires.circuit c.requires.frames in
     let e = c.in_ok-settle.ensures in
     let closed = subst (λ (o : Option RelevantState). IsClosedBack a.standing.window.circuit a.standing.window.frames

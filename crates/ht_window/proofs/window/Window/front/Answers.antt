@@ -1,0 +1,63 @@
+use Rattle.std.proofs.Common.{◌≡◌, ◌≤◌, ◌∙◌, ◌*◌, List, [], None, Option, true, ap, sym, arith, length, take, subst}
+use Rattle.std.proofs.Math.Nat.{mul-le-mul_right}
+use Rattle.std.proofs.lemmas.List.{length-take-le}
+use Rattle.ht_pairs.specs.Pairs.{Pair}
+use Rattle.ht_net.specs.Netlist.{Netlist, net_count}
+use Rattle.ht_tree.specs.declared.token.Assign3.{Assign3}
+use Rattle.ht_relevant.specs.Near.{RelevantState}
+use Rattle.ht_window.specs.Matters.{is_relevant}
+use Rattle.ht_window.specs.Standing.{Standing}
+use Rattle.ht_window.specs.States.{WindowState}
+use Rattle.ht_window.specs.Cells.{AreCells, cell_count}
+use Rattle.ht_window.proofs.HistoryLaws.{cells_now}
+use Rattle.ht_window.proofs.TurnLaws.{front_cells}
+use Rattle.ht_window.proofs.window.Window.front.Goals as goal
+
+pub new-requires-2-clause-count : goal.new-requires-2-clause-count
+new-requires-2-clause-count c =
+    let a = c.self.inside.held in
+    let w = a.standing.window in
+    let n = c.args.frames in
+    let nets = net_count w.circuit in
+    let long = c.decided-whole.ensures.count in
+    let r = c.requires.few in
+    let v = ap (λ (s : WindowState). s.window.frames) c.self.view_is in
+    let m : n * nets ≤ w.frames * nets = mul-le-mul_right nets (omega (arith, r, v)) in
+    let l : length (take (n * nets) a.cells.values) ≡ n * nets = length-take-le (n * nets) a.cells.values
+    (omega (arith, m, long)) in
+    let circuit : c.circuit.result.now ≡ w.circuit = c.circuit.ensures.circuit
+    ∙ ap (λ (s : Standing). s.window.circuit) c.decided-whole.ensures.standing in
+    ap length c.in_ok-sets.ensures ∙ (l ∙ (ap (λ (k : Netlist). n * net_count k) (sym circuit)
+    ∙ sym (ap (λ (s : Standing). cell_count s.window) c.in_ok-part.ensures)))
+
+pub undecided-requires-clause-cells : goal.undecided-requires-clause-cells
+undecided-requires-clause-cells c =
+    let a = c.self.inside.held in
+    let w = a.standing.window in
+    let n = c.args.frames in
+    let h = c.in_ok-held.held in
+    let r = c.requires.few in
+    let v = ap (λ (s : WindowState). s.window.frames) c.self.view_is in
+    let whole = c.decided-whole.ensures.standing in
+    let circuit : c.circuit.result.now ≡ w.circuit = c.circuit.ensures.circuit
+    ∙ ap (λ (s : Standing). s.window.circuit) whole in
+    let fault = c.fault.ensures ∙ ap (λ (s : Standing). s.window.fault) whole in
+    let start = c.start.ensures ∙ ap (λ (s : Standing). s.window.start) whole in
+    let none : a.standing.path ≡ [] = ap (λ (s : WindowState). s.decisions) c.self.view_is ∙ c.requires.base.decisions in
+    let all : a.relevant ≡ None = ap (λ (s : WindowState). s.relevant) c.self.view_is ∙ c.requires.base.whole in
+    let are = cells_now w (is_relevant a.relevant) a.standing.path c.self.inside.marks.items a.cells
+    c.self.invariant.history in
+    let part : h.standing ≡ record { window = record w { frames = n }; path = [] } = c.in_ok-held.ensures.standing
+    ∙ (c.in_ok-part.ensures ∙ (λ i. record {
+      window = record { circuit = circuit i; fault = fault i; frames = n; start = start i };
+      path = [];
+    })) in
+    let values : h.cells.values ≡ take (n * net_count w.circuit) a.cells.values = c.in_ok-held.ensures.values
+    ∙ c.in_ok-sets.ensures in
+    subst (λ (o : Option RelevantState). AreCells h.standing.window (is_relevant o) h.standing.path h.cells.values)
+    (sym c.in_ok-held.ensures.whole)
+    (subst (λ (s : Standing). AreCells s.window (λ f x. true) s.path h.cells.values) (sym part)
+    (subst (λ (l : List (List Pair)). AreCells (record w { frames = n }) (λ f x. true) [] l) (sym values)
+    (front_cells w [] n a.cells.values (omega (arith, r, v))
+    (subst (λ (o : Option RelevantState). AreCells w (is_relevant o) [] a.cells.values) all
+    (subst (λ (p : List Assign3). AreCells w (is_relevant a.relevant) p a.cells.values) none are)))))

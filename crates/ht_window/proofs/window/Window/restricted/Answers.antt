@@ -1,0 +1,13 @@
+use Rattle.std.proofs.Common.{List, ap, sym, subst}
+use Rattle.ht_pairs.specs.Pairs.{Pair}
+use Rattle.ht_trail.specs.Trails.{CellsState}
+use Rattle.ht_window.specs.Turns.{HoldsElsewhere}
+use Rattle.ht_window.proofs.TurnLaws.{still_elsewhere}
+use Rattle.ht_window.proofs.window.Window.restricted.Goals as goal
+
+pub followed-requires-clause-holds : goal.followed-requires-clause-holds
+followed-requires-clause-holds c =
+    let e = c.in_ok-restrict.ensures in
+    subst (HoldsElsewhere c.restrict.new.held) (sym c.fault.ensures)
+    (still_elsewhere c.in_ok-held.held c.restrict.new.held c.args.self.now.window.fault e.standing
+    (ap (λ (k : CellsState (List Pair)). k.values) e.cells) c.in_ok-held.ensures.holds)
