@@ -173,6 +173,18 @@ pub record AreDetectedSoFar (c : Netlist) (representatives : List ℕ) (list : L
   pub complete : (j : ℕ) → j < k → IsDetectedBy c list (own_at representatives j)
       → Contains (fault_numbers detected) (own_at representatives j)
 
+-- no class yet
+pub none_detected : (c : Netlist) (representatives : List ℕ) (list : List (List Bool)) (detected : List DetectedFault)
+    → detected ≡ [] → AreDetectedSoFar c representatives list 0 detected
+none_detected c representatives list detected is =
+    subst (AreDetectedSoFar c representatives list 0) (sym is) (record {
+      some = omega arith;
+      few = omega arith;
+      each = λ k d inside. absurd (omega (arith, inside));
+      sound = λ k d inside. absurd (omega (arith, inside));
+      complete = λ j less found. absurd (omega (arith, less));
+    })
+
 -- one class more is detected
 pub detected_more : (c : Netlist) (representatives : List ℕ) (list : List (List Bool)) (k : ℕ)
     (detected more : List DetectedFault) (one : DetectedFault) → AreClasses c representatives
