@@ -1,15 +1,14 @@
 -- The loads of nets, counted one by one.
-use Rattle.std.proofs.Common.{◌≡◌, ◌≢◌, ◌<◌, ◌≤◌, ◌+◌, ◌∙◌, ℕ, List, true, false, length, get_or, set, replicate, take, refl, sym, subst, arith, add_assoc, inl, inr, get_or-set_other, get_or-set_same}
+use Rattle.std.proofs.Common.{◌≡◌, ◌≢◌, ◌<◌, ◌≤◌, ◌+◌, ◌∙◌, ℕ, List, true, false, length, get_or, set, take, refl, sym, subst, arith, add_assoc, inl, inr, get_or-set_other, get_or-set_same}
 use Rattle.std.specs.Prelude.{eqb}
 use Rattle.std.proofs.lemmas.Bool.{eq-eqb, ne_eqb}
 use Rattle.std.proofs.lemmas.Bool.Decides.{eqb_tells}
 use Rattle.std.specs.List.{sum_by}
-use Rattle.std.proofs.lemmas.List.{get_or_past, get_or-replicate, length-replicate, take_all}
+use Rattle.std.proofs.lemmas.List.{take_all}
 use Rattle.std.proofs.lemmas.List.Sums.{count_by_more_yes, count_by_more_no, sum_by_more}
 use Rattle.ht_net.specs.declared.net.NetId.{NetId}
 use Rattle.ht_net.specs.Netlist.{Netlist, Gate, gate_at, no_gate, no_net}
 use Rattle.ht_net.specs.Levels.{times}
-use Rattle.ht_net.proofs.FrameLaws.{le_or_lt}
 use Rattle.ht_stems.specs.declared.net_loads.NetLoads.{NetLoads}
 use Rattle.ht_stems.specs.declared.net_loads.NetLoads.TheVariants.{NoLoad, OneGate, OneDataPin, OneOutput, Several}
 use Rattle.ht_stems.specs.LoadsOfNets.{CountsAs, CountsMore, HasEntries, HasLoads, with_load}

@@ -21,5 +21,5 @@ loop-output-preserved c =
 
 pub returns : goal.returns
 returns c = counted_all c.args.circuit.now c.args.table.now c.loop-output.table c.args.circuit.now.outputs
-    c.args.circuit.now.outputs c.loop-output.output (omega (arith, c.loop-output-test.false, c.outputs-output-end.ensures)) refl
-    c.loop-output.invariant
+    c.args.circuit.now.outputs c.loop-output.output
+    (omega (arith, c.loop-output-test.false, c.outputs-output-end.ensures)) refl c.loop-output.invariant
