@@ -35,6 +35,12 @@ frame_is c fault family before after e d is = record {
   taken = ap (λ (f : FrameView). f.taken) is ∙ (λ i. taken_sets (e i) (d i) family);
 }
 
+pub frame_run : (before : FrameView) {after : FrameView} {c : Netlist} {fault : Fault} {family given : Family}
+    → before.circuit ≡ c → before.fault ≡ fault → given ≡ family → after ≡ after_family before given
+    → IsFrameOf c fault family after
+frame_run before {after = after} {c = c} {fault = fault} {family = family} e d same is =
+    frame_is c fault family before after e d (is ∙ ap (after_family before) same)
+
 pub shows_in : (c : Netlist) (fault : Fault) (family : Family) (frame : FrameView)
     → IsFrameOf c fault family frame → MayShow frame.circuit frame.shown → MayShow c (shown_sets c fault family)
 shows_in c fault family frame is may =

@@ -3,29 +3,25 @@ use Rattle.std.proofs.lemmas.List.{with_items_is}
 use Rattle.ht_pairs.specs.Pairs.{Pair}
 use Rattle.ht_pairs.specs.Included.{joined_set}
 use Rattle.ht_tree.specs.ClosedFamilies.{IncludesEach, Family}
-use Rattle.ht_families.specs.FamilyFrames.{after_family, size_of}
-use Rattle.ht_families.proofs.CloseLaws.{frame_is, least_when, none_when, smaller_when}
+use Rattle.ht_families.specs.FamilyFrames.{size_of}
+use Rattle.ht_families.proofs.CloseLaws.{frame_run, least_when, none_when, smaller_when}
 use Rattle.ht_families.proofs.JoinEachLaws.{not_true}
 use Rattle.ht_families.proofs.LeastLaws.{IsGrown, grows_on}
 use Rattle.ht_families.proofs.search.closing.Goals as goal
 
 pub returns-then-may_differ : goal.returns-then-may_differ
 returns-then-may_differ c =
-    let n = c.args.circuit.now in
-    let family : Family = c.rounds.family.items in
-    let is = frame_is n c.args.fault family c.rounds.frame c.run.new.self c.rounds.invariant.circuit
-    c.rounds.invariant.fault (c.run.ensures ∙ ap (after_family c.rounds.frame) c.deref.ensures.value) in
-    none_when n c.args.fault c.args.start.now family c.run.new.self is c.rounds.invariant.grown
-    (c.if-may_differ.ensures.0 refl)
+    let is = frame_run c.rounds.frame c.rounds.invariant.circuit c.rounds.invariant.fault c.deref.ensures.value
+    c.run.ensures in
+    none_when c.args.circuit.now c.args.fault c.args.start.now c.rounds.family.items c.run.new.self is
+    c.rounds.invariant.grown (c.if-may_differ.ensures.0 refl)
 
 pub returns-then-includes_each : goal.returns-then-includes_each
 returns-then-includes_each c =
-    let n = c.args.circuit.now in
-    let family : Family = c.rounds.family.items in
-    let is = frame_is n c.args.fault family c.rounds.frame c.run.new.self c.rounds.invariant.circuit
-    c.rounds.invariant.fault (c.run.ensures ∙ ap (after_family c.rounds.frame) c.deref.ensures.value) in
-    least_when n c.args.fault c.args.start.now family c.taken.result.now c.run.new.self is c.rounds.invariant.grown
-    c.taken.ensures.taken
+    let is = frame_run c.rounds.frame c.rounds.invariant.circuit c.rounds.invariant.fault c.deref.ensures.value
+    c.run.ensures in
+    least_when c.args.circuit.now c.args.fault c.args.start.now c.rounds.family.items c.taken.result.now
+    c.run.new.self is c.rounds.invariant.grown c.taken.ensures.taken
     (subst (λ (f : Family). IncludesEach f c.taken.result.now) c.deref-in-rounds.ensures.value
     (c.if-includes_each.ensures.0 refl))
     (λ m. not_true (c.if-may_differ.ensures.1 m))
@@ -58,8 +54,8 @@ rounds-preserved c =
     let next : Family = c.join_each.new.family in
     let items = with_items_is c.rounds.family next (omega arith) in
     let was = c.deref_mut.ensures.value in
-    let is = frame_is n c.args.fault family c.rounds.frame c.run.new.self c.rounds.invariant.circuit
-    c.rounds.invariant.fault (c.run.ensures ∙ ap (after_family c.rounds.frame) c.deref.ensures.value) in
+    let is = frame_run c.rounds.frame c.rounds.invariant.circuit c.rounds.invariant.fault c.deref.ensures.value
+    c.run.ensures in
     let took = c.taken-in-rounds.ensures.taken ∙ is.taken in
     let long : length next ≡ length family = let e = ap length was in omega (arith, e) in
     record {
