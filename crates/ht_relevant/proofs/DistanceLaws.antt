@@ -8,7 +8,7 @@ use Rattle.std.proofs.lemmas.List.Elements.{Contains-push, Contains-append_left,
 use Rattle.std.proofs.lemmas.List.Sums.{sum_by-set}
 use Rattle.ht_net.specs.Netlist.{Netlist}
 use Rattle.ht_relevant.specs.declared.way.Way.{Way}
-use Rattle.ht_relevant.specs.Steps.{AreSpread, LeadsWithin, LeadsOn}
+use Rattle.ht_relevant.specs.Steps.{AreSpread}
 use Rattle.ht_relevant.specs.Distances.{DistanceState, AreDistances, AreFollowed, HasGrown, IsFollowed, IsLower, number_of, if_none}
 
 pub less_true : (a b : ℕ) → a < b → ltb a b ≡ true
@@ -186,14 +186,14 @@ next_distances s x l h = record {
 -- ---- what is followed
 
 -- where no net has a number nothing is to be followed
-pub none_followed : (c : Netlist) (way : Way) (least : ℕ) (s : DistanceState)
+none_followed : (c : Netlist) (way : Way) (least : ℕ) (s : DistanceState)
     → ((x : ℕ) → s.frames ≤ number_of s x) → AreFollowed c way least s
 none_followed c way least s none = record {
   within = λ x y leads n. let f = none x in absurd (omega (arith, f, n));
   on = λ x y leads n. let f = none x in absurd (omega (arith, f, n));
 }
 
-pub none_numbered : (frames n x : ℕ) → frames ≤ get_or (replicate n frames) x frames
+none_numbered : (frames n x : ℕ) → frames ≤ get_or (replicate n frames) x frames
 none_numbered frames n x = elim (less_or n x) [
   | inl l ↦ let e = get_or-replicate n x frames frames l in omega (arith, e)
   | inr past ↦
@@ -205,7 +205,7 @@ none_numbered frames n x = elim (less_or n x) [
   less_or n x = grind arith
 
 module _ (c : Netlist) (way : Way) (least : ℕ) (s t : DistanceState) (grown : HasGrown s t) where
-  pub grown_followed : AreFollowed c way least s → AreFollowed c way least t
+  grown_followed : AreFollowed c way least s → AreFollowed c way least t
   grown_followed h = record {
     within = λ x y leads n. elim (grown.new x (let f = grown.lower.frames in omega (arith, n, f))) [
       | inl old ↦ elim (h.within x y leads old) [
@@ -230,12 +230,13 @@ module _ (c : Netlist) (way : Way) (least : ℕ) (s t : DistanceState) (grown : 
     ];
   }
 
--- the last net of this distance that was to be followed is
-module _ (c : Netlist) (way : Way) (s t : DistanceState) (x : ℕ) (at : number_of s x ≡ s.distance)
-    (grown : HasGrown s t) (followed : IsFollowed c way t x) where
-  pub popped_followed : AreFollowed c way s.distance (record s { here = s.here ++ x ∷ [] })
-      → AreFollowed c way t.distance t
-  popped_followed h =
+  -- The nets that were to be followed still are or have been, and those that were to get a number one frame on still are
+  -- or have it.
+  followed_on : (here next : List ℕ) → least ≤ s.distance
+      → ((y : ℕ) → Contains here y → Contains t.here y ⊎ ((number_of s y ≡ s.distance) × IsFollowed c way t y))
+      → ((z : ℕ) → Contains next z → Contains t.next z ⊎ (number_of t z ≤ least + 1))
+      → AreFollowed c way least (record s { here = here; next = next }) → AreFollowed c way least t
+  followed_on here next low wait due h =
       let f = grown.lower.frames in
       let d = grown.distance in
       record {
@@ -244,71 +245,63 @@ module _ (c : Netlist) (way : Way) (s t : DistanceState) (x : ℕ) (at : number_
               let k = grown.kept y old in
               elim (h.within y z leads old) [
                 | inl less ↦ let l = grown.lower.lower z in inl (omega (arith, less, k, l))
-                | inr wait ↦ elim (Contains-push_cases s.here x y wait) [
-                  | inl before ↦ inr (grown.waits y before)
-                  | inr same ↦
-                      let there : number_of s y ≡ s.distance = ap (number_of s) (sym same) ∙ at in
-                      let l = followed.within z (subst (λ (v : ℕ). LeadsWithin c way v z) (sym same) leads) in
-                      inl (omega (arith, l, k, there, d))
+                | inr w ↦ elim (wait y w) [
+                  | inl still ↦ inr still
+                  | inr done ↦
+                      let at = done.0 in
+                      let l = done.1.within z leads in
+                      inl (omega (arith, l, k, at, d))
                 ]
               ]
-          | inr wait ↦ inr wait
+          | inr still ↦ inr still
         ];
         on = λ y z leads n. elim (grown.new y (omega (arith, n, f))) [
           | inl old ↦
               let k = grown.kept y old in
               elim (h.on y z leads (omega (arith, n, k, f))) [
                 | inl (inl less) ↦ let l = grown.lower.lower z in inl (inl (omega (arith, less, k, l)))
-                | inl (inr due) ↦ let m = due.1 in inl (inr (grown.later z due.0, omega (arith, m, k, d)))
-                | inr wait ↦ elim (Contains-push_cases s.here x y wait) [
-                  | inl before ↦ inr (grown.waits y before)
-                  | inr same ↦
-                      let there : number_of s y ≡ s.distance = ap (number_of s) (sym same) ∙ at in
-                      inl (inr (
-                        followed.on z (subst (λ (v : ℕ). LeadsOn c way v z) (sym same) leads),
-                        omega (arith, k, there, d),
-                      ))
+                | inl (inr owed) ↦
+                    let m = owed.1 in
+                    elim (due z owed.0) [
+                      | inl still ↦ inl (inr (still, omega (arith, m, k)))
+                      | inr got ↦ inl (inl (omega (arith, got, m, k)))
+                    ]
+                | inr w ↦ elim (wait y w) [
+                  | inl still ↦ inr still
+                  | inr done ↦ let at = done.0 in inl (inr (done.1.on z leads, omega (arith, k, at, low)))
                 ]
               ]
-          | inr wait ↦ inr wait
+          | inr still ↦ inr still
         ];
       }
 
+-- the last net of this distance that was to be followed is
+pub popped_followed : (c : Netlist) (way : Way) (s t : DistanceState) (x : ℕ) → number_of s x ≡ s.distance
+    → HasGrown s t → IsFollowed c way t x → AreFollowed c way s.distance (record s { here = s.here ++ x ∷ [] })
+    → AreFollowed c way t.distance t
+popped_followed c way s t x at grown followed h =
+    subst (λ (n : ℕ). AreFollowed c way n t) (sym grown.distance)
+    (followed_on c way s.distance s t grown (s.here ++ x ∷ []) s.next (omega arith)
+    (λ y w. elim (Contains-push_cases s.here x y w) [
+      | inl before ↦ inl (grown.waits y before)
+      | inr same ↦ inr (ap (number_of s) (sym same) ∙ at, subst (IsFollowed c way t) same followed)
+    ])
+    (λ z w. inl (grown.later z w)) h)
+
 -- what was to get a number one frame on has got it
-module _ (c : Netlist) (way : Way) (least : ℕ) (s t : DistanceState) (x : ℕ) (one : s.distance ≡ least + 1)
-    (grown : HasGrown s t) (put : number_of t x ≤ t.distance) where
-  pub next_followed : AreFollowed c way least (record s { next = s.next ++ x ∷ [] }) → AreFollowed c way least t
-  next_followed h =
-      let f = grown.lower.frames in
-      let d = grown.distance in
-      record {
-        within = λ y z leads n. elim (grown.new y (omega (arith, n, f))) [
-          | inl old ↦
-              let k = grown.kept y old in
-              elim (h.within y z leads old) [
-                | inl less ↦ let l = grown.lower.lower z in inl (omega (arith, less, k, l))
-                | inr wait ↦ inr (grown.waits y wait)
-              ]
-          | inr wait ↦ inr wait
-        ];
-        on = λ y z leads n. elim (grown.new y (omega (arith, n, f))) [
-          | inl old ↦
-              let k = grown.kept y old in
-              elim (h.on y z leads (omega (arith, n, k, f))) [
-                | inl (inl less) ↦ let l = grown.lower.lower z in inl (inl (omega (arith, less, k, l)))
-                | inl (inr due) ↦
-                    let m = due.1 in
-                    elim (Contains-push_cases s.next x z due.0) [
-                      | inl before ↦ inl (inr (grown.later z before, omega (arith, m, k)))
-                      | inr same ↦
-                          let there : number_of t z ≡ number_of t x = ap (number_of t) (sym same) in
-                          inl (inl (omega (arith, put, there, m, k, d, one)))
-                    ]
-                | inr wait ↦ inr (grown.waits y wait)
-              ]
-          | inr wait ↦ inr wait
-        ];
-      }
+pub next_followed : (c : Netlist) (way : Way) (least : ℕ) (s t : DistanceState) (x : ℕ) → s.distance ≡ least + 1
+    → HasGrown s t → number_of t x ≤ t.distance
+    → AreFollowed c way least (record s { next = s.next ++ x ∷ [] }) → AreFollowed c way least t
+next_followed c way least s t x one grown put h =
+    followed_on c way least s t grown s.here (s.next ++ x ∷ []) (omega (arith, one))
+    (λ y w. inl (grown.waits y w))
+    (λ z w. elim (Contains-push_cases s.next x z w) [
+      | inl before ↦ inl (grown.later z before)
+      | inr same ↦
+          let there : number_of t z ≡ number_of t x = ap (number_of t) (sym same) in
+          let d = grown.distance in
+          inr (omega (arith, put, there, d, one))
+    ]) h
 
 -- where none is to get a number one frame on, it doesn't matter how far away that is
 pub any_least : (c : Netlist) (way : Way) (least more : ℕ) (s : DistanceState) → s.next ≡ []
@@ -339,44 +332,65 @@ all_spread c way s none last h = record {
 
 -- ---- one net less
 
-pub here_popped : (s : DistanceState) (x : ℕ) → AreDistances (record s { here = s.here ++ x ∷ [] }) → AreDistances s
-here_popped s x h = record {
+pub last_in : {xs : List ℕ} {x : ℕ} (rest : List ℕ) → xs ≡ rest ++ x ∷ [] → Contains xs x
+last_in {xs} {x} rest is = subst (λ (l : List ℕ). Contains l x) (sym is) (Contains-push rest x)
+
+front_in : {xs : List ℕ} (rest gone : List ℕ) → xs ≡ rest ++ gone → (y : ℕ) → Contains rest y → Contains xs y
+front_in rest gone is y w =
+    subst (λ (l : List ℕ). Contains l y) (sym is) (Contains-append_left rest gone y w)
+
+fewer_left : (s : DistanceState) (here next : List ℕ) → AreDistances s
+    → ((y : ℕ) → Contains here y → Contains s.here y) → ((y : ℕ) → Contains next y → Contains s.next y)
+    → AreDistances (record s { here = here; next = next })
+fewer_left s here next h few later = record {
   few = h.few;
   inside = h.inside;
   most = h.most;
-  here = λ y w. h.here y (Contains-append_left s.here (x ∷ []) y w);
-  next = h.next;
+  here = λ y w. h.here y (few y w);
+  next = λ y w. h.next y (later y w);
 }
 
-pub here_known : (s : DistanceState) (x : ℕ) → AreDistances (record s { here = s.here ++ x ∷ [] })
-    → number_of s x ≡ s.distance
-here_known s x h = h.here x (Contains-push s.here x)
+pub here_less : {s : DistanceState} {rest : List ℕ} (gone : List ℕ) → AreDistances s → s.here ≡ rest ++ gone
+    → AreDistances (record s { here = rest })
+here_less {s} {rest} gone h is = fewer_left s rest s.next h (front_in rest gone is) (λ y w. w)
 
-pub here_inside : (s : DistanceState) (x : ℕ) → AreDistances (record s { here = s.here ++ x ∷ [] })
-    → x < length s.numbers
-here_inside s x h =
-    let e = here_known s x h in
+pub next_less : {s : DistanceState} {rest : List ℕ} (gone : List ℕ) → AreDistances s → s.next ≡ rest ++ gone
+    → AreDistances (record s { next = rest })
+next_less {s} {rest} gone h is = fewer_left s s.here rest h (λ y w. w) (front_in rest gone is)
+
+pub here_inside : {s : DistanceState} {x : ℕ} → AreDistances s → Contains s.here x → x < length s.numbers
+here_inside {s} {x} h w =
+    let e = h.here x w in
     let l = h.inside in
     numbered_inside s x (omega (arith, e, l))
-
-pub next_popped : (s : DistanceState) (x : ℕ) → AreDistances (record s { next = s.next ++ x ∷ [] }) → AreDistances s
-next_popped s x h = record {
-  few = h.few;
-  inside = h.inside;
-  most = h.most;
-  here = h.here;
-  next = λ y w. h.next y (Contains-append_left s.next (x ∷ []) y w);
-}
-
-pub next_inside : (s : DistanceState) (x : ℕ) → AreDistances (record s { next = s.next ++ x ∷ [] })
-    → x < length s.numbers
-next_inside s x h = h.next x (Contains-push s.next x)
 
 -- no number
 abbrev pub fresh : ℕ → ℕ → DistanceState
 fresh nets frames = record { frames = frames; distance = 0; numbers = replicate nets frames; here = []; next = [] }
 
-pub fresh_followed : (c : Netlist) (way : Way) (nets frames : ℕ) (s : DistanceState) → s ≡ fresh nets frames
+fresh_followed : (c : Netlist) (way : Way) (nets frames : ℕ) (s : DistanceState) → s ≡ fresh nets frames
     → AreFollowed c way 0 s
 fresh_followed c way nets frames s e =
     subst (AreFollowed c way 0) (sym e) (none_followed c way 0 (fresh nets frames) (none_numbered frames nets))
+
+-- Numbers that were put first, in two steps, where no net had one.
+pub record AreFirst (n : ℕ) (s t : DistanceState) : Type 0 where
+  pub followed : (c : Netlist) (way : Way) → AreFollowed c way 0 t
+  pub zero : s.distance ≡ 0
+  pub frames : t.frames ≡ n
+
+pub first_put : {frames : ℕ} {none s t : DistanceState} (nets : ℕ) → none ≡ fresh nets frames → HasGrown none s → HasGrown s t
+    → AreFirst frames s t
+first_put {frames} {none} {s} {t} nets e one two = record {
+  followed = λ c way.
+      grown_followed c way 0 s t two (grown_followed c way 0 none s one (fresh_followed c way nets frames none e));
+  zero = one.distance ∙ ap (λ (d : DistanceState). d.distance) e;
+  frames = two.lower.frames ∙ (one.lower.frames ∙ ap (λ (d : DistanceState). d.frames) e);
+}
+
+-- what is spread is, under another name of the circuit and of the number of frames
+pub spread_under : {c m : Netlist} {way : Way} {frames most : ℕ} {number : ℕ → ℕ} → c ≡ m → frames ≡ most
+    → AreSpread c way frames number → AreSpread m way most number
+spread_under {c} {m} {way} {frames} {most} {number} same count h =
+    subst (λ (k : Netlist). AreSpread k way most number) same
+    (subst (λ (n : ℕ). AreSpread c way n number) count h)

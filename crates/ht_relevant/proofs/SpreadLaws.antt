@@ -6,6 +6,15 @@ use Rattle.ht_relevant.specs.declared.way.Way.{Way}
 use Rattle.ht_relevant.specs.Distances.{DistanceState, AreFollowed, HasGrown, IsFollowed, IsLower, number_of, left_to_do}
 use Rattle.ht_relevant.proofs.DistanceLaws.{lower_more, popped_followed, next_followed}
 
+-- numbers that have not risen still have not, whatever is to be followed
+lower_grown : (first s t : DistanceState) (here next : List ℕ) → IsLower first (record s { here = here; next = next })
+    → HasGrown s t → IsLower first t
+lower_grown first s t here next k grown = lower_more first (record s { here = here; next = next }) t k (record {
+  frames = grown.lower.frames;
+  count = grown.lower.count;
+  lower = grown.lower.lower;
+})
+
 -- the nets of one distance, some of which are followed
 pub record IsSpreading (c : Netlist) (way : Way) (first s : DistanceState) : Type 0 where
   pub lower : IsLower first s
@@ -19,11 +28,7 @@ module _ (c : Netlist) (way : Way) (first before s t : DistanceState) (x : ℕ)
   one_followed at followed h =
       let k : IsSpreading c way first (record s { here = s.here ++ x ∷ [] }) = subst (IsSpreading c way first) was h in
       record {
-        lower = lower_more first (record s { here = s.here ++ x ∷ [] }) t k.lower (record {
-          frames = grown.lower.frames;
-          count = grown.lower.count;
-          lower = grown.lower.lower;
-        });
+        lower = lower_grown first s t (s.here ++ x ∷ []) s.next k.lower grown;
         distance = grown.distance ∙ k.distance;
         followed = popped_followed c way s t x at grown followed k.followed;
       }
@@ -54,11 +59,7 @@ module _ (first before s t : DistanceState) (x : ℕ) (was : before ≡ record s
   one_got put h =
       let k : IsGoingOn first (record s { next = s.next ++ x ∷ [] }) = subst (IsGoingOn first) was h in
       record {
-        lower = lower_more first (record s { next = s.next ++ x ∷ [] }) t k.lower (record {
-          frames = grown.lower.frames;
-          count = grown.lower.count;
-          lower = grown.lower.lower;
-        });
+        lower = lower_grown first s t s.here (s.next ++ x ∷ []) k.lower grown;
         distance = grown.distance ∙ k.distance;
         followed = λ c way f. next_followed c way first.distance s t x k.distance grown put (k.followed c way f);
       }
