@@ -230,8 +230,8 @@ module _ (c : Netlist) (way : Way) (least : ℕ) (s t : DistanceState) (grown : 
     ];
   }
 
-  -- The nets that were to be followed still are or have been, and those that were to get a number one frame on still are
-  -- or have it.
+  -- The nets that were to be followed still are or have been, and those that were to get a number one frame on still
+  -- are or have it.
   followed_on : (here next : List ℕ) → least ≤ s.distance
       → ((y : ℕ) → Contains here y → Contains t.here y ⊎ ((number_of s y ≡ s.distance) × IsFollowed c way t y))
       → ((z : ℕ) → Contains next z → Contains t.next z ⊎ (number_of t z ≤ least + 1))
@@ -379,8 +379,8 @@ pub record AreFirst (n : ℕ) (s t : DistanceState) : Type 0 where
   pub zero : s.distance ≡ 0
   pub frames : t.frames ≡ n
 
-pub first_put : {frames : ℕ} {none s t : DistanceState} (nets : ℕ) → none ≡ fresh nets frames → HasGrown none s → HasGrown s t
-    → AreFirst frames s t
+pub first_put : {frames : ℕ} {none s t : DistanceState} (nets : ℕ) → none ≡ fresh nets frames → HasGrown none s
+    → HasGrown s t → AreFirst frames s t
 first_put {frames} {none} {s} {t} nets e one two = record {
   followed = λ c way.
       grown_followed c way 0 s t two (grown_followed c way 0 none s one (fresh_followed c way nets frames none e));
