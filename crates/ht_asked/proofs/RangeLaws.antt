@@ -9,7 +9,7 @@ use Rattle.clap.proofs.WalkLemmas.{both}
 use Rattle.ht_asked.specs.declared.limits.TheConstants.{MAX_BUDGET, MAX_FAULT, MAX_RANDOM, MAX_SEED, MAX_SIZE, MIN_BUDGET, MIN_FAULT, MIN_SIZE}
 use Rattle.ht_asked.specs.Forms.{Given, given}
 use Rattle.ht_asked.specs.Numbers.{is_number, number_in, number_or}
-use Rattle.ht_asked.specs.Asked.{Asked, Command, GenOptions, asked, check_of, commands, demo_of, demo_with, gen, gen_of, norm_of, of_four, of_three, options_with, sim_of}
+use Rattle.ht_asked.specs.Asked.{Asked, Command, GenOptions, asked, check_of, commands, demo_of, demo_with, gen, gen_of, norm, of_four, of_three, of_two, options_with, sim_of}
 use Rattle.ht_asked.specs.Asked.{compact, deep_of, diagnose, report, report_of, respond, respond_of, sync, sync_of}
 use Rattle.ht_asked.specs.Asked.{uninit, uninit_of}
 use Rattle.ht_asked.specs.Asked.{budget_of, random_of, seed_in, seed_of, size_in}
@@ -44,95 +44,56 @@ option_is_in_range default least most within (Some text) = number_is_in_range le
 abbrev AsksInRange : Option Asked → Type 0
 AsksInRange asks = IfSome asks IsInRange
 
+by_two : (job : Text → Text → Asked) → ((a b : Text) → IsInRange (job a b)) → (names : List Text)
+    → AsksInRange (of_two job names)
+by_two job so (a ∷ b ∷ []) = so a b
+by_two job so _ = tt
+
 by_three : (job : Text → Text → Text → Asked) → ((a b c : Text) → IsInRange (job a b c)) → (names : List Text)
     → AsksInRange (of_three job names)
-by_three job so [] = tt
-by_three job so (a ∷ []) = tt
-by_three job so (a ∷ b ∷ []) = tt
 by_three job so (a ∷ b ∷ c ∷ []) = so a b c
-by_three job so (a ∷ b ∷ c ∷ d ∷ rest) = tt
+by_three job so _ = tt
 
 by_four : (job : Text → Text → Text → Text → Asked) → ((a b c d : Text) → IsInRange (job a b c d))
     → (names : List Text) → AsksInRange (of_four job names)
-by_four job so [] = tt
-by_four job so (a ∷ []) = tt
-by_four job so (a ∷ b ∷ []) = tt
-by_four job so (a ∷ b ∷ c ∷ []) = tt
 by_four job so (a ∷ b ∷ c ∷ d ∷ []) = so a b c d
-by_four job so (a ∷ b ∷ c ∷ d ∷ x ∷ rest) = tt
+by_four job so _ = tt
 
 by_options : (names : GenOptions → Asked) → ((o : GenOptions) → AreOptions o → IsInRange (names o))
     → (budget random seed weighted : Option ℕ) (deep : Option Bool) (start first faults : Option Text)
     → IfSome budget (InRange MIN_BUDGET MAX_BUDGET) → IfSome random (InRange 0 MAX_RANDOM)
     → IfSome seed (InRange 0 MAX_SEED) → IfSome weighted (InRange 0 MAX_RANDOM)
     → AsksInRange (option_map names (options_with budget random seed start first faults weighted deep))
-by_options names so None random seed weighted deep start first faults b r s w = tt
-by_options names so (Some budget) None seed weighted deep start first faults b r s w = tt
-by_options names so (Some budget) (Some random) None weighted deep start first faults b r s w = tt
-by_options names so (Some budget) (Some random) (Some seed) None deep start first faults b r s w = tt
-by_options names so (Some budget) (Some random) (Some seed) (Some weighted) None start first faults b r s w = tt
 by_options names so (Some budget) (Some random) (Some seed) (Some weighted) (Some deep) start first faults b r s w =
     so _ (record { budget = b; random = r.1; seed = s.1; weighted = w.1 })
+by_options names so _ _ _ _ _ _ _ _ _ _ _ _ = tt
 
 by_gen : (names : List Text) (texts : List (Option Text)) → AsksInRange (gen_of names texts)
-by_gen [] texts = tt
-by_gen (a ∷ []) texts = tt
-by_gen (a ∷ b ∷ []) texts = tt
-by_gen (a ∷ b ∷ c ∷ []) texts = tt
-by_gen (a ∷ b ∷ c ∷ d ∷ x ∷ rest) texts = tt
-by_gen (a ∷ b ∷ c ∷ d ∷ []) [] = tt
-by_gen (a ∷ b ∷ c ∷ d ∷ []) (t ∷ []) = tt
-by_gen (a ∷ b ∷ c ∷ d ∷ []) (t ∷ u ∷ []) = tt
-by_gen (a ∷ b ∷ c ∷ d ∷ []) (t ∷ u ∷ v ∷ []) = tt
-by_gen (a ∷ b ∷ c ∷ d ∷ []) (t ∷ u ∷ v ∷ w ∷ []) = tt
-by_gen (a ∷ b ∷ c ∷ d ∷ []) (t ∷ u ∷ v ∷ w ∷ f ∷ []) = tt
-by_gen (a ∷ b ∷ c ∷ d ∷ []) (t ∷ u ∷ v ∷ w ∷ f ∷ l ∷ []) = tt
-by_gen (a ∷ b ∷ c ∷ d ∷ []) (t ∷ u ∷ v ∷ w ∷ f ∷ l ∷ n ∷ []) = tt
-by_gen (a ∷ b ∷ c ∷ d ∷ []) (t ∷ u ∷ v ∷ w ∷ f ∷ l ∷ n ∷ k ∷ x ∷ rest) = tt
 by_gen (a ∷ b ∷ c ∷ d ∷ []) (t ∷ u ∷ v ∷ w ∷ f ∷ l ∷ n ∷ k ∷ []) =
     by_options (gen a b c d) (λ o so. so) (budget_of t) (random_of u) (seed_of v) (random_of n) (deep_of k) w f l
     (option_is_in_range 1000 MIN_BUDGET MAX_BUDGET (omega arith, omega arith) t)
     (option_is_in_range 0 0 MAX_RANDOM (omega arith, omega arith) u)
     (option_is_in_range 0 0 MAX_SEED (omega arith, omega arith) v)
     (option_is_in_range 0 0 MAX_RANDOM (omega arith, omega arith) n)
+by_gen _ _ = tt
 
 by_sim : (names : List Text) (texts : List (Option Text)) → AsksInRange (sim_of names texts)
-by_sim [] texts = tt
-by_sim (a ∷ []) texts = tt
-by_sim (a ∷ b ∷ []) texts = tt
-by_sim (a ∷ b ∷ c ∷ d ∷ rest) texts = tt
-by_sim (a ∷ b ∷ c ∷ []) [] = tt
 by_sim (a ∷ b ∷ c ∷ []) (t ∷ []) = tt
-by_sim (a ∷ b ∷ c ∷ []) (t ∷ u ∷ rest) = tt
+by_sim _ _ = tt
 
 by_check : (names : List Text) (texts : List (Option Text)) → AsksInRange (check_of names texts)
-by_check [] texts = tt
-by_check (a ∷ []) texts = tt
-by_check (a ∷ b ∷ []) texts = tt
-by_check (a ∷ b ∷ c ∷ []) texts = tt
-by_check (a ∷ b ∷ c ∷ d ∷ x ∷ rest) texts = tt
-by_check (a ∷ b ∷ c ∷ d ∷ []) [] = tt
 by_check (a ∷ b ∷ c ∷ d ∷ []) (t ∷ []) = tt
-by_check (a ∷ b ∷ c ∷ d ∷ []) (t ∷ u ∷ rest) = tt
-
-by_norm : (names : List Text) → AsksInRange (norm_of names)
-by_norm [] = tt
-by_norm (a ∷ []) = tt
-by_norm (a ∷ b ∷ []) = tt
-by_norm (a ∷ b ∷ c ∷ rest) = tt
+by_check _ _ = tt
 
 by_numbers : (size seed : Option ℕ) → IfSome size (InRange MIN_SIZE MAX_SIZE) → IfSome seed (InRange 0 MAX_SEED)
     → AsksInRange (demo_with size seed)
-by_numbers None seed a b = tt
-by_numbers (Some size) None a b = tt
 by_numbers (Some size) (Some seed) a b = (a.0, a.1, b.1)
+by_numbers _ _ _ _ = tt
 
 by_demo : (texts : List Text) → AsksInRange (demo_of texts)
-by_demo [] = tt
-by_demo (a ∷ []) = tt
-by_demo (a ∷ b ∷ c ∷ rest) = tt
 by_demo (a ∷ b ∷ []) = by_numbers (size_in a) (seed_in b) (number_is_in_range MIN_SIZE MAX_SIZE a)
     (number_is_in_range 0 MAX_SEED b)
+by_demo _ = tt
 
 -- a job with a budget alone
 by_budget : (job : ℕ → Asked) → ((n : ℕ) → InRange MIN_BUDGET MAX_BUDGET n → IsInRange (job n)) → (t : Option Text)
@@ -144,21 +105,12 @@ by_budget job so t = by (budget_of t) (option_is_in_range 1000 MIN_BUDGET MAX_BU
     by (Some budget) b = so budget b
 
 by_uninit : (names : List Text) (texts : List (Option Text)) → AsksInRange (uninit_of names texts)
-by_uninit [] texts = tt
-by_uninit (a ∷ []) texts = tt
-by_uninit (a ∷ b ∷ c ∷ rest) texts = tt
-by_uninit (a ∷ b ∷ []) [] = tt
-by_uninit (a ∷ b ∷ []) (t ∷ u ∷ rest) = tt
 by_uninit (a ∷ b ∷ []) (t ∷ []) = by_budget (uninit a b) (λ n h. h) t
+by_uninit _ _ = tt
 
 by_sync : (names : List Text) (texts : List (Option Text)) → AsksInRange (sync_of names texts)
-by_sync [] texts = tt
-by_sync (a ∷ []) texts = tt
-by_sync (a ∷ b ∷ []) texts = tt
-by_sync (a ∷ b ∷ c ∷ d ∷ rest) texts = tt
-by_sync (a ∷ b ∷ c ∷ []) [] = tt
-by_sync (a ∷ b ∷ c ∷ []) (t ∷ u ∷ rest) = tt
 by_sync (a ∷ b ∷ c ∷ []) (t ∷ []) = by_budget (sync a b c) (λ n h. h) t
+by_sync _ _ = tt
 
 by_fault : (netlist tests out : Text) (start : Option Text) (fault : Option ℕ)
     → IfSome fault (InRange MIN_FAULT MAX_FAULT)
@@ -167,27 +119,14 @@ by_fault netlist tests out start None within = tt
 by_fault netlist tests out start (Some number) within = within
 
 by_respond : (names : List Text) (texts : List (Option Text)) → AsksInRange (respond_of names texts)
-by_respond [] texts = tt
-by_respond (a ∷ []) texts = tt
-by_respond (a ∷ b ∷ []) texts = tt
-by_respond (a ∷ b ∷ c ∷ d ∷ rest) texts = tt
-by_respond (a ∷ b ∷ c ∷ []) [] = tt
-by_respond (a ∷ b ∷ c ∷ []) (t ∷ []) = tt
-by_respond (a ∷ b ∷ c ∷ []) (t ∷ u ∷ v ∷ rest) = tt
 by_respond (a ∷ b ∷ c ∷ []) (None ∷ u ∷ []) = tt
 by_respond (a ∷ b ∷ c ∷ []) (Some text ∷ u ∷ []) =
     by_fault a b c u (number_in MIN_FAULT MAX_FAULT text) (number_is_in_range MIN_FAULT MAX_FAULT text)
+by_respond _ _ = tt
 
 by_report : (names : List Text) (texts : List (Option Text)) → AsksInRange (report_of names texts)
-by_report [] texts = tt
-by_report (a ∷ []) texts = tt
-by_report (a ∷ b ∷ []) texts = tt
-by_report (a ∷ b ∷ c ∷ []) texts = tt
-by_report (a ∷ b ∷ c ∷ d ∷ x ∷ rest) texts = tt
-by_report (a ∷ b ∷ c ∷ d ∷ []) [] = tt
-by_report (a ∷ b ∷ c ∷ d ∷ []) (t ∷ []) = tt
-by_report (a ∷ b ∷ c ∷ d ∷ []) (t ∷ u ∷ v ∷ rest) = tt
 by_report (a ∷ b ∷ c ∷ d ∷ []) (t ∷ u ∷ []) = by_budget (λ n. report a b c d n u) (λ n h. h) t
+by_report _ _ = tt
 
 -- ---- the table of the commands
 
@@ -196,7 +135,7 @@ All [] = Unit {0}
 All (c ∷ cs) = ((g : Given) → AsksInRange (c.asks g)) × All cs
 
 commands_ask_in_range : All commands
-commands_ask_in_range = (λ g. by_sim g.positionals g.options, (λ g. by_gen g.positionals g.options, (λ g. by_check g.positionals g.options, (λ g. by_norm g.positionals, (λ g. by_demo g.positionals, (λ g. by_three compact (λ a b c. tt) g.positionals, (λ g. by_four diagnose (λ a b c d. tt) g.positionals, (λ g. by_uninit g.positionals g.options, (λ g. by_sync g.positionals g.options, (λ g. by_respond g.positionals g.options, (λ g. by_report g.positionals g.options, tt)))))))))))
+commands_ask_in_range = (λ g. by_sim g.positionals g.options, (λ g. by_gen g.positionals g.options, (λ g. by_check g.positionals g.options, (λ g. by_two norm (λ a b. tt) g.positionals, (λ g. by_demo g.positionals, (λ g. by_three compact (λ a b c. tt) g.positionals, (λ g. by_four diagnose (λ a b c d. tt) g.positionals, (λ g. by_uninit g.positionals g.options, (λ g. by_sync g.positionals g.options, (λ g. by_respond g.positionals g.options, (λ g. by_report g.positionals g.options, tt)))))))))))
 
 by_given : (c : Command) → ((g : Given) → AsksInRange (c.asks g)) → (o : Option Given)
     → AsksInRange (option_and_then c.asks o)

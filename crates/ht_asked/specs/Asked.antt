@@ -8,7 +8,7 @@ use Rattle.clap.specs.Walk.{Text}
 use Rattle.ht_asked.specs.declared.limits.TheConstants.{DEFAULT_BUDGET, MAX_BUDGET, MIN_BUDGET}
 use Rattle.ht_asked.specs.declared.limits.TheConstants.{DEFAULT_RANDOM, DEFAULT_SEED, MAX_RANDOM, MAX_SEED}
 use Rattle.ht_asked.specs.declared.limits.TheConstants.{MAX_FAULT, MAX_SIZE, MIN_FAULT, MIN_SIZE}
-use Rattle.ht_asked.specs.Forms.{Form, Given, given, names_form}
+use Rattle.ht_asked.specs.Forms.{Form, Given, given}
 use Rattle.ht_asked.specs.Numbers.{number_in, number_or}
 
 -- the words as their bytes
@@ -48,6 +48,19 @@ pub record Command : Type 0 where
   pub form : Form
   pub asks : Given → Option Asked
 
+-- a command of this name, with these positionals and options, and what their texts ask for
+abbrev pub command_of : Text → List Text → List Text → (List Text → List (Option Text) → Option Asked) → Command
+command_of name positionals options asks = record {
+  name = name;
+  form = record { positionals = positionals; options = options };
+  asks = λ g. asks g.positionals g.options;
+}
+
+-- a command of two names
+abbrev pub of_two : (Text → Text → Asked) → List Text → Option Asked
+of_two job (first ∷ second ∷ []) = Some (job first second)
+of_two job _ = None
+
 -- a command of three names
 abbrev pub of_three : (Text → Text → Text → Asked) → List Text → Option Asked
 of_three job (first ∷ second ∷ third ∷ []) = Some (job first second third)
@@ -65,14 +78,8 @@ sim_of _ _ = None
 
 -- the command `sim`
 abbrev pub sim_command : Command
-sim_command = record {
-  name = codes "sim";
-  form = record {
-    positionals = codes "netlist" ∷ codes "tests" ∷ codes "report" ∷ [];
-    options = codes "start" ∷ [];
-  };
-  asks = λ g. sim_of g.positionals g.options;
-}
+sim_command = command_of (codes "sim") (codes "netlist" ∷ codes "tests" ∷ codes "report" ∷ [])
+    (codes "start" ∷ []) sim_of
 
 -- the budget of a search, where the option's text is one or is left out
 abbrev pub budget_of : Option Text → Option ℕ
@@ -120,15 +127,9 @@ gen_of _ _ = None
 
 -- the command `gen`
 abbrev pub gen_command : Command
-gen_command = record {
-  name = codes "gen";
-  form = record {
-    positionals = codes "netlist" ∷ codes "tests" ∷ codes "report" ∷ codes "proofs" ∷ [];
-    options = codes "budget" ∷ codes "random" ∷ codes "seed" ∷ codes "start" ∷ codes "first" ∷ codes "faults"
-        ∷ codes "weighted" ∷ codes "search" ∷ [];
-  };
-  asks = λ g. gen_of g.positionals g.options;
-}
+gen_command = command_of (codes "gen") (codes "netlist" ∷ codes "tests" ∷ codes "report" ∷ codes "proofs" ∷ [])
+    (codes "budget" ∷ codes "random" ∷ codes "seed" ∷ codes "start" ∷ codes "first" ∷ codes "faults"
+    ∷ codes "weighted" ∷ codes "search" ∷ []) gen_of
 
 -- `check NETLIST TESTS REPORT PROOFS [--start FILE]`
 abbrev pub check_of : List Text → List (Option Text) → Option Asked
@@ -137,27 +138,13 @@ check_of _ _ = None
 
 -- the command `check`
 abbrev pub check_command : Command
-check_command = record {
-  name = codes "check";
-  form = record {
-    positionals = codes "netlist" ∷ codes "tests" ∷ codes "report" ∷ codes "proofs" ∷ [];
-    options = codes "start" ∷ [];
-  };
-  asks = λ g. check_of g.positionals g.options;
-}
+check_command = command_of (codes "check") (codes "netlist" ∷ codes "tests" ∷ codes "report" ∷ codes "proofs" ∷ [])
+    (codes "start" ∷ []) check_of
 
 -- `norm NETLIST OUT`
-abbrev pub norm_of : List Text → Option Asked
-norm_of (netlist ∷ out ∷ []) = Some (norm netlist out)
-norm_of _ = None
-
--- the command `norm`
 abbrev pub norm_command : Command
-norm_command = record {
-  name = codes "norm";
-  form = names_form (codes "netlist" ∷ codes "out" ∷ []);
-  asks = λ g. norm_of g.positionals;
-}
+norm_command = command_of (codes "norm") (codes "netlist" ∷ codes "out" ∷ [])
+    [] (λ names _. of_two norm names)
 
 -- the size of a demonstration netlist
 abbrev pub size_in : Text → Option ℕ
@@ -179,27 +166,18 @@ demo_of _ = None
 
 -- the command `demo`
 abbrev pub demo_command : Command
-demo_command = record {
-  name = codes "demo";
-  form = names_form (codes "size" ∷ codes "seed" ∷ []);
-  asks = λ g. demo_of g.positionals;
-}
+demo_command = command_of (codes "demo") (codes "size" ∷ codes "seed" ∷ [])
+    [] (λ names _. demo_of names)
 
 -- `compact NETLIST TESTS OUT`
 abbrev pub compact_command : Command
-compact_command = record {
-  name = codes "compact";
-  form = names_form (codes "netlist" ∷ codes "tests" ∷ codes "out" ∷ []);
-  asks = λ g. of_three compact g.positionals;
-}
+compact_command = command_of (codes "compact") (codes "netlist" ∷ codes "tests" ∷ codes "out" ∷ [])
+    [] (λ names _. of_three compact names)
 
 -- `diagnose NETLIST TESTS RESPONSES OUT`
 abbrev pub diagnose_command : Command
-diagnose_command = record {
-  name = codes "diagnose";
-  form = names_form (codes "netlist" ∷ codes "tests" ∷ codes "responses" ∷ codes "out" ∷ []);
-  asks = λ g. of_four diagnose g.positionals;
-}
+diagnose_command = command_of (codes "diagnose") (codes "netlist" ∷ codes "tests" ∷ codes "responses" ∷ codes "out" ∷ [])
+    [] (λ names _. of_four diagnose names)
 
 -- `uninit NETLIST OUT [--budget N]`
 abbrev pub uninit_of : List Text → List (Option Text) → Option Asked
@@ -208,14 +186,8 @@ uninit_of _ _ = None
 
 -- the command `uninit`
 abbrev pub uninit_command : Command
-uninit_command = record {
-  name = codes "uninit";
-  form = record {
-    positionals = codes "netlist" ∷ codes "out" ∷ [];
-    options = codes "budget" ∷ [];
-  };
-  asks = λ g. uninit_of g.positionals g.options;
-}
+uninit_command = command_of (codes "uninit") (codes "netlist" ∷ codes "out" ∷ [])
+    (codes "budget" ∷ []) uninit_of
 
 -- `sync NETLIST TESTS OUT [--budget N]`
 abbrev pub sync_of : List Text → List (Option Text) → Option Asked
@@ -224,14 +196,8 @@ sync_of _ _ = None
 
 -- the command `sync`
 abbrev pub sync_command : Command
-sync_command = record {
-  name = codes "sync";
-  form = record {
-    positionals = codes "netlist" ∷ codes "tests" ∷ codes "out" ∷ [];
-    options = codes "budget" ∷ [];
-  };
-  asks = λ g. sync_of g.positionals g.options;
-}
+sync_command = command_of (codes "sync") (codes "netlist" ∷ codes "tests" ∷ codes "out" ∷ [])
+    (codes "budget" ∷ []) sync_of
 
 -- the number of a fault, where the option's text is one, or none where it is left out
 abbrev pub fault_of : Option Text → Option (Option ℕ)
@@ -246,14 +212,8 @@ respond_of _ _ = None
 
 -- the command `respond`
 abbrev pub respond_command : Command
-respond_command = record {
-  name = codes "respond";
-  form = record {
-    positionals = codes "netlist" ∷ codes "tests" ∷ codes "out" ∷ [];
-    options = codes "fault" ∷ codes "start" ∷ [];
-  };
-  asks = λ g. respond_of g.positionals g.options;
-}
+respond_command = command_of (codes "respond") (codes "netlist" ∷ codes "tests" ∷ codes "out" ∷ [])
+    (codes "fault" ∷ codes "start" ∷ []) respond_of
 
 -- `report NETLIST TESTS PROOFS REPORT [--budget N] [--start FILE]`
 abbrev pub report_of : List Text → List (Option Text) → Option Asked
@@ -263,14 +223,8 @@ report_of _ _ = None
 
 -- the command `report`
 abbrev pub report_command : Command
-report_command = record {
-  name = codes "report";
-  form = record {
-    positionals = codes "netlist" ∷ codes "tests" ∷ codes "proofs" ∷ codes "report" ∷ [];
-    options = codes "budget" ∷ codes "start" ∷ [];
-  };
-  asks = λ g. report_of g.positionals g.options;
-}
+report_command = command_of (codes "report") (codes "netlist" ∷ codes "tests" ∷ codes "proofs" ∷ codes "report" ∷ [])
+    (codes "budget" ∷ codes "start" ∷ []) report_of
 
 -- the commands, in the order of the usage line
 abbrev pub commands : List Command

@@ -11,10 +11,6 @@ pub record Form : Type 0 where
   pub positionals : List Text
   pub options : List Text
 
--- the form with these positionals, and without options
-abbrev pub names_form : List Text → Form
-names_form names = record { positionals = names; options = [] }
-
 -- the text of each positional, and that of each option or none, in the form's order
 pub record Given : Type 0 where
   pub positionals : List Text
