@@ -1,8 +1,8 @@
 -- How a number among the words is read.
 use Rattle.std.proofs.Common.{◌≡◌, ◌∙◌, ◌∷◌, ◌<◌, ◌≤◌, ◌^◌, ℕ, Bool, true, false, not, cond, [], length, Option, Some, None, Result, Ok, Err, refl, sym, ap, arith, slice_index, ◌&&◌, ◌==◌}
-use Rattle.std.specs.Prelude.{IfOk, nat_le}
+use Rattle.std.specs.Prelude.{nat_le}
 use Rattle.std.specs.List.{list_all}
-use Rattle.std.specs.Result.{OkIff, result_ok}
+use Rattle.std.specs.Result.{OkIff}
 use Rattle.std.specs.Str.Parse.{ParsesUnsigned, digits_value}
 use Rattle.std.proofs.lemmas.Bool.{le-leb, leb-true, ne_eqb}
 use Rattle.std.proofs.lemmas.Bool.Decides.{Decides-eqb}
@@ -50,22 +50,22 @@ module _ (E : Type 0) (text : Text) (plain : false ≡ (slice_index text 0 == 43
       (λ e. let bad : false ≡ true = plain ∙ (Decides-eqb (slice_index text 0) 43).1 e in cc)
 
   pub read_is_in : (least most number : ℕ) → ParsesUnsigned {E = E} 64 10 text (Ok number) → least ≤ number
-      → number ≤ most → Some number ≡ number_in least most text
+      → number ≤ most → number_in least most text ≡ Some number
   read_is_in least most number parses above below =
       let is = parsed (Ok number) parses in
-      sym (ap (λ b. given ((not b && list_all is_digit text) && in_range least most (value text)) (value text))
+      ap (λ b. given ((not b && list_all is_digit text) && in_range least most (value text)) (value text))
       (has_some text is.0.1)
       ∙ ap (λ b. given (b && in_range least most (value text)) (value text)) is.0.0
       ∙ ap (λ n. given (in_range least most n) n) (sym is.1)
       ∙ ap (λ b. given (b && nat_le number most) number) (le-leb least number above)
-      ∙ ap (λ b. given b number) (le-leb number most below))
+      ∙ ap (λ b. given b number) (le-leb number most below)
 
   pub unread_is_none : (least most : ℕ) (error : E) → most < 2 ^ 64 → ParsesUnsigned {E = E} 64 10 text (Err error)
-      → None ≡ number_in least most text
+      → number_in least most text ≡ None
   unread_is_none least most error small parses = go (is_number text) refl (in_range least most (value text)) refl
     where
       go : (a : Bool) → is_number text ≡ a → (b : Bool) → in_range least most (value text) ≡ b
-          → None ≡ given (a && b) (value text)
+          → given (a && b) (value text) ≡ None
       go false e b f = refl
       go true e false f = refl
       go true e true f =
@@ -76,9 +76,3 @@ module _ (E : Type 0) (text : Text) (plain : false ≡ (slice_index text 0 == 43
             some_length text digits.0,
             omega (arith, small, leb-true (value text) most range.1),
           ))
-
--- a number that is there is the one of the result
-pub ok_is : {E : Type 0} (number : Option ℕ) (r : Result ℕ E) → number ≡ result_ok r
-    → IfOk r (λ n. number ≡ Some n)
-ok_is number (Ok n) e = e
-ok_is number (Err error) e = tt

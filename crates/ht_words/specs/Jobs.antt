@@ -7,6 +7,7 @@ use Rattle.ht_asked.specs.ByClap.{all_of}
 use Rattle.ht_words.specs.declared.job.GenOptions.{GenOptions as Options}
 use Rattle.ht_words.specs.declared.job.Job.{Job}
 use Rattle.ht_words.specs.declared.job.Job.TheVariants as job
+use Rattle.ht_words.specs.declared.job.RunFiles.{RunFiles}
 use Rattle.ht_words.specs.declared.job.WordsFault.{WordsFault}
 use Rattle.ht_words.specs.declared.job.WordsFault.TheVariants.{Usage}
 
@@ -31,13 +32,14 @@ options_in rows = options_with
     (first_of (codes "first") rows) (first_of (codes "faults") rows)
     (random_of (first_of (codes "weighted") rows)) (deep_of (first_of (codes "search") rows))
 
--- the values of these arguments in the rows, if none is missing
-abbrev pub values_in : List Text → List Row → Option (List Text)
-values_in ids rows = all_of (map (λ id. first_of id rows) ids)
-
 -- the names of the files of a run in the rows, if none is missing
 abbrev pub files_in : List Row → Option (List Text)
-files_in rows = values_in (codes "netlist" ∷ codes "tests" ∷ codes "report" ∷ codes "proofs" ∷ []) rows
+files_in rows = all_of (map (λ id. first_of id rows)
+    (codes "netlist" ∷ codes "tests" ∷ codes "report" ∷ codes "proofs" ∷ []))
+
+-- the names of the files of a run, in the order of the words of `gen`
+abbrev pub run_names : RunFiles → List Text
+run_names files = files.netlist ∷ files.tests ∷ files.report ∷ files.proofs ∷ []
 
 -- what words ask for where they ask for the job
 abbrev pub asked_by : Job → Asked
@@ -54,7 +56,15 @@ asked_by (job.Respond netlist tests out fault start) = respond netlist tests out
 asked_by (job.Report files budget start) =
     report files.netlist files.tests files.proofs files.report budget start
 
--- the answer to what words ask for: the job, or a refusal; `Usage` only where they ask for none
-pub record IsAnswer (asked : Option Asked) (result : Result Job WordsFault) : Type 0 where
-  pub usage : result ≡ Err Usage → asked ≡ None
-  pub ok : IfOk result (λ job. asked ≡ Some (asked_by job))
+-- what is read where the words say this: their value, or a refusal; `Usage` only where they say none
+pub record IsReadAs {T U : Type 0} (said : Option U) (taken : T → U) (result : Result T WordsFault) : Type 0 where
+  pub usage : result ≡ Err Usage → said ≡ None
+  pub ok : IfOk result (λ v. said ≡ Some (taken v))
+
+-- what is read where the words say this, as it is
+abbrev pub Reads : {T : Type 0} → Option T → Result T WordsFault → Type 0
+Reads said result = IsReadAs said (λ v. v) result
+
+-- the answer to what words ask for: the job, or a refusal
+abbrev pub IsAnswer : Option Asked → Result Job WordsFault → Type 0
+IsAnswer asked result = IsReadAs asked asked_by result

@@ -19,6 +19,7 @@ mod file_name;
 mod job;
 mod number;
 mod reading;
+mod value;
 
 pub use file_name::FileName;
 pub use job::{GenOptions, Job, RunFiles, WordsFault};

@@ -1,11 +1,12 @@
 //! Numbers among the words: as their text, and as the values that `clap` found.
-ghost use Rattle.std.specs.Prelude.{◌≡◌, IfOk, None, Some, codes, option_and_then};
+ghost use Rattle.std.specs.Prelude.{codes, option_and_then};
 ghost use Rattle.clap.specs.Words.{first_of, found_of, rows_of};
 ghost use Rattle.ht_asked.specs.Asked.{budget_of, fault_of, random_of, seed_of, size_in};
 ghost use Rattle.ht_asked.specs.Numbers.{number_in, number_or};
-ghost use Rattle.ht_words.specs.declared.job.WordsFault.TheVariants as fault;
+ghost use Rattle.ht_words.specs.Jobs.{Reads};
 
 use crate::job::WordsFault;
+use crate::value::given_text;
 use clap::ArgMatches;
 use ht_asked::{
     DEFAULT_BUDGET, DEFAULT_RANDOM, DEFAULT_SEED, MAX_BUDGET, MAX_FAULT, MAX_RANDOM, MAX_SEED,
@@ -14,20 +15,20 @@ use ht_asked::{
 
 /// The number that the text writes in the digits `0` to `9` and nothing else, where it is one from the least to the
 /// most. Leading zeros don't matter.
-fn read_number(text: &str, least: u64, most: u64) -> Option<u64>
-    ensures { result ≡ number_in least most text.now }
+fn read_number(text: &str, least: u64, most: u64) -> Result<u64, WordsFault>
+    ensures { Reads (number_in least most text.now) result }
 {
     // `parse` takes a plus, and a word of digits has none.
     if text.starts_with('+') {
-        return None;
+        return Err(WordsFault::Usage);
     }
     let Ok(number) = text.parse::<u64>() else {
-        return None;
+        return Err(WordsFault::Usage);
     };
     if number < least || number > most {
-        return None;
+        return Err(WordsFault::Usage);
     }
-    Some(number)
+    Ok(number)
 }
 
 /// The number of an argument that has to be there.
@@ -37,13 +38,11 @@ pub fn wanted_number(
     least: u64,
     most: u64,
 ) -> Result<u64, WordsFault>
-    ensures usage { result ≡ Err fault.Usage → option_and_then (number_in least most)
-        (first_of id.now (rows_of (found_of matches.now))) ≡ None }
-    ensures ok { IfOk result (λ number. option_and_then (number_in least most)
-        (first_of id.now (rows_of (found_of matches.now))) ≡ Some number) }
+    ensures { Reads (option_and_then (number_in least most)
+        (first_of id.now (rows_of (found_of matches.now)))) result }
 {
-    match matches.get_str(id) {
-        Some(text) => read_number(text, least, most).ok_or(WordsFault::Usage),
+    match given_text(matches, id) {
+        Some(text) => read_number(text, least, most),
         None => Err(WordsFault::Usage),
     }
 }
@@ -56,33 +55,25 @@ fn number_or_default(
     least: u64,
     most: u64,
 ) -> Result<u64, WordsFault>
-    ensures usage { result ≡ Err fault.Usage → number_or default least most
-        (first_of id.now (rows_of (found_of matches.now))) ≡ None }
-    ensures ok { IfOk result (λ number. number_or default least most
-        (first_of id.now (rows_of (found_of matches.now))) ≡ Some number) }
+    ensures { Reads (number_or default least most
+        (first_of id.now (rows_of (found_of matches.now)))) result }
 {
-    match matches.get_str(id) {
-        Some(text) => read_number(text, least, most).ok_or(WordsFault::Usage),
+    match given_text(matches, id) {
+        Some(text) => read_number(text, least, most),
         None => Ok(default),
     }
 }
 
 /// The budget of each search.
 pub fn budget(matches: &ArgMatches<'_>) -> Result<u64, WordsFault>
-    ensures usage { result ≡ Err fault.Usage →
-        budget_of (first_of (codes "budget") (rows_of (found_of matches.now))) ≡ None }
-    ensures ok { IfOk result (λ number.
-        budget_of (first_of (codes "budget") (rows_of (found_of matches.now))) ≡ Some number) }
+    ensures { Reads (budget_of (first_of (codes "budget") (rows_of (found_of matches.now)))) result }
 {
     number_or_default(matches, "budget", DEFAULT_BUDGET, MIN_BUDGET, MAX_BUDGET)
 }
 
 /// How many random vectors come first, or how many weighted ones after them, as the option of this name says.
 pub fn random(matches: &ArgMatches<'_>, id: &str) -> Result<u32, WordsFault>
-    ensures usage { result ≡ Err fault.Usage →
-        random_of (first_of id.now (rows_of (found_of matches.now))) ≡ None }
-    ensures ok { IfOk result (λ number.
-        random_of (first_of id.now (rows_of (found_of matches.now))) ≡ Some number) }
+    ensures { Reads (random_of (first_of id.now (rows_of (found_of matches.now)))) result }
 {
     let number = number_or_default(matches, id, DEFAULT_RANDOM, 0, MAX_RANDOM)?;
     Ok(number as u32)
@@ -90,36 +81,25 @@ pub fn random(matches: &ArgMatches<'_>, id: &str) -> Result<u32, WordsFault>
 
 /// The seed of the random and the weighted vectors.
 pub fn seed(matches: &ArgMatches<'_>) -> Result<u64, WordsFault>
-    ensures usage { result ≡ Err fault.Usage →
-        seed_of (first_of (codes "seed") (rows_of (found_of matches.now))) ≡ None }
-    ensures ok { IfOk result (λ number.
-        seed_of (first_of (codes "seed") (rows_of (found_of matches.now))) ≡ Some number) }
+    ensures { Reads (seed_of (first_of (codes "seed") (rows_of (found_of matches.now)))) result }
 {
     number_or_default(matches, "seed", DEFAULT_SEED, 0, MAX_SEED)
 }
 
 /// The number of a fault, if one is given.
 pub fn fault_number(matches: &ArgMatches<'_>) -> Result<Option<u32>, WordsFault>
-    ensures usage { result ≡ Err fault.Usage →
-        fault_of (first_of (codes "fault") (rows_of (found_of matches.now))) ≡ None }
-    ensures ok { IfOk result (λ number.
-        fault_of (first_of (codes "fault") (rows_of (found_of matches.now))) ≡ Some number) }
+    ensures { Reads (fault_of (first_of (codes "fault") (rows_of (found_of matches.now)))) result }
 {
-    let Some(text) = matches.get_str("fault") else {
-        return Ok(None);
-    };
-    match read_number(text, MIN_FAULT, MAX_FAULT) {
-        Some(number) => Ok(Some(number as u32)),
-        None => Err(WordsFault::Usage),
+    match given_text(matches, "fault") {
+        Some(text) => Ok(Some(read_number(text, MIN_FAULT, MAX_FAULT)? as u32)),
+        None => Ok(None),
     }
 }
 
 /// The size of a demonstration netlist.
 pub fn size(matches: &ArgMatches<'_>) -> Result<u32, WordsFault>
-    ensures usage { result ≡ Err fault.Usage → option_and_then size_in
-        (first_of (codes "size") (rows_of (found_of matches.now))) ≡ None }
-    ensures ok { IfOk result (λ number. option_and_then size_in
-        (first_of (codes "size") (rows_of (found_of matches.now))) ≡ Some number) }
+    ensures { Reads (option_and_then size_in
+        (first_of (codes "size") (rows_of (found_of matches.now)))) result }
 {
     let number = wanted_number(matches, "size", MIN_SIZE, MAX_SIZE)?;
     Ok(number as u32)

@@ -1,19 +1,18 @@
 //! From words to a job.
-ghost use Rattle.std.specs.Prelude.{◌≡◌, ◌≢◌, ◌∷◌, IfOk, None, Some, [], codes, false};
-ghost use Rattle.std.specs.Prelude.{option_and_then, true};
+ghost use Rattle.std.specs.Prelude.{◌≡◌, IfOk, codes, false, option_and_then, true};
 ghost use Rattle.clap.specs.Words.{app_of, first_of, found_of, is_simple_and_free, matches_of, rows_of};
 ghost use Rattle.ht_asked.specs.Asked.{asked, check_command, command_named, gen_command, sim_command, words_of};
 ghost use Rattle.ht_asked.specs.Asked.{deep_of, demo_with, report_command, respond_command, seed_in, size_in};
 ghost use Rattle.ht_asked.specs.Asked.{compact_command, diagnose_command, norm_command, sync_command};
 ghost use Rattle.ht_asked.specs.Asked.{uninit_command};
 ghost use Rattle.ht_asked.specs.ByClap.{asked_by_clap, asked_in_rows, is_taken};
-ghost use Rattle.ht_words.specs.Jobs.{IsAnswer, files_in, options_by, options_in, values_in};
+ghost use Rattle.ht_words.specs.Jobs.{IsAnswer, IsReadAs, Reads, files_in, run_names, options_by, options_in};
 ghost use Rattle.ht_words.specs.declared.job.WordsFault.TheVariants as fault;
 
 use crate::definitions::definition;
-use crate::file_name::FileName;
 use crate::job::{GenOptions, Job, RunFiles, WordsFault};
 use crate::number::{budget, fault_number, random, seed, size, wanted_number};
+use crate::value::{given_text, optional_value, value};
 use clap::error::ErrorKind;
 use clap::{ArgMatches, Command};
 use ht_asked::MAX_SEED;
@@ -79,42 +78,32 @@ fn job(alloc: Global, word: &str, matches: &ArgMatches<'_>) -> Result<Job, Words
     }
 }
 
+/// A job, or the files of one, with the values of the arguments of these names, and with what is known of the others.
+macro_rules! with_values {
+    ($alloc:expr, $matches:expr => $($made:ident)::+ { $($file:ident),+ $(; $($known:ident),+)? }) => {{
+        $(let $file = value($alloc, $matches, stringify!($file))?;)+
+        Ok($($made)::+ { $($file,)+ $($($known,)+)? })
+    }};
+}
+
 /// The job of `sim`.
 fn sim_job(alloc: Global, matches: &ArgMatches<'_>) -> Result<Job, WordsFault>
     ensures { IsAnswer (asked_in_rows sim_command (rows_of (found_of matches.now))) result }
 {
     let start = optional_value(alloc, matches, "start")?;
-    let (netlist, tests, report) = three_values(alloc, matches, "netlist", "tests", "report")?;
-    Ok(Job::Sim {
-        netlist,
-        tests,
-        report,
-        start,
-    })
+    with_values!(alloc, matches => Job::Sim { netlist, tests, report; start })
 }
 
 /// The names of the files of a run.
 fn run_files(alloc: Global, matches: &ArgMatches<'_>) -> Result<RunFiles, WordsFault>
-    ensures usage { result ≡ Err fault.Usage → files_in (rows_of (found_of matches.now)) ≡ None }
-    ensures ok { IfOk result (λ files. files_in (rows_of (found_of matches.now))
-        ≡ Some (files.netlist ∷ files.tests ∷ files.report ∷ files.proofs ∷ [])) }
+    ensures { IsReadAs (files_in (rows_of (found_of matches.now))) run_names result }
 {
-    let (netlist, tests, report, proofs) = four_values(
-        alloc, matches, "netlist", "tests", "report", "proofs",
-    )?;
-    Ok(RunFiles {
-        netlist,
-        tests,
-        report,
-        proofs,
-    })
+    with_values!(alloc, matches => RunFiles { netlist, tests, report, proofs })
 }
 
 /// The options of `gen`. The numbers are asked first, while nothing is owned.
 fn gen_options(alloc: Global, matches: &ArgMatches<'_>) -> Result<GenOptions, WordsFault>
-    ensures usage { result ≡ Err fault.Usage → options_in (rows_of (found_of matches.now)) ≡ None }
-    ensures ok { IfOk result (λ options. options_in (rows_of (found_of matches.now))
-        ≡ Some (options_by options)) }
+    ensures { IsReadAs (options_in (rows_of (found_of matches.now))) options_by result }
 {
     let budget = budget(matches)?;
     let random_count = random(matches, "random")?;
@@ -155,8 +144,7 @@ fn check_job(alloc: Global, matches: &ArgMatches<'_>) -> Result<Job, WordsFault>
 fn norm_job(alloc: Global, matches: &ArgMatches<'_>) -> Result<Job, WordsFault>
     ensures { IsAnswer (asked_in_rows norm_command (rows_of (found_of matches.now))) result }
 {
-    let (netlist, out) = two_values(alloc, matches, "netlist", "out")?;
-    Ok(Job::Norm { netlist, out })
+    with_values!(alloc, matches => Job::Norm { netlist, out })
 }
 
 /// The job of `demo`.
@@ -176,32 +164,14 @@ fn demo_job(matches: &ArgMatches<'_>) -> Result<Job, WordsFault>
 fn compact_job(alloc: Global, matches: &ArgMatches<'_>) -> Result<Job, WordsFault>
     ensures { IsAnswer (asked_in_rows compact_command (rows_of (found_of matches.now))) result }
 {
-    let (netlist, tests, out) = three_values(alloc, matches, "netlist", "tests", "out")?;
-    Ok(Job::Compact {
-        netlist,
-        tests,
-        out,
-    })
+    with_values!(alloc, matches => Job::Compact { netlist, tests, out })
 }
 
 /// The job of `diagnose`.
 fn diagnose_job(alloc: Global, matches: &ArgMatches<'_>) -> Result<Job, WordsFault>
     ensures { IsAnswer (asked_in_rows diagnose_command (rows_of (found_of matches.now))) result }
 {
-    let (netlist, tests, responses, out) = four_values(
-        alloc,
-        matches,
-        "netlist",
-        "tests",
-        "responses",
-        "out",
-    )?;
-    Ok(Job::Diagnose {
-        netlist,
-        tests,
-        responses,
-        out,
-    })
+    with_values!(alloc, matches => Job::Diagnose { netlist, tests, responses, out })
 }
 
 /// The job of `uninit`.
@@ -209,12 +179,7 @@ fn uninit_job(alloc: Global, matches: &ArgMatches<'_>) -> Result<Job, WordsFault
     ensures { IsAnswer (asked_in_rows uninit_command (rows_of (found_of matches.now))) result }
 {
     let budget = budget(matches)?;
-    let (netlist, out) = two_values(alloc, matches, "netlist", "out")?;
-    Ok(Job::Uninit {
-        netlist,
-        out,
-        budget,
-    })
+    with_values!(alloc, matches => Job::Uninit { netlist, out; budget })
 }
 
 /// The job of `sync`.
@@ -222,13 +187,7 @@ fn sync_job(alloc: Global, matches: &ArgMatches<'_>) -> Result<Job, WordsFault>
     ensures { IsAnswer (asked_in_rows sync_command (rows_of (found_of matches.now))) result }
 {
     let budget = budget(matches)?;
-    let (netlist, tests, out) = three_values(alloc, matches, "netlist", "tests", "out")?;
-    Ok(Job::Sync {
-        netlist,
-        tests,
-        out,
-        budget,
-    })
+    with_values!(alloc, matches => Job::Sync { netlist, tests, out; budget })
 }
 
 /// The job of `respond`.
@@ -237,14 +196,7 @@ fn respond_job(alloc: Global, matches: &ArgMatches<'_>) -> Result<Job, WordsFaul
 {
     let fault = fault_number(matches)?;
     let start = optional_value(alloc, matches, "start")?;
-    let (netlist, tests, out) = three_values(alloc, matches, "netlist", "tests", "out")?;
-    Ok(Job::Respond {
-        netlist,
-        tests,
-        out,
-        fault,
-        start,
-    })
+    with_values!(alloc, matches => Job::Respond { netlist, tests, out; fault, start })
 }
 
 /// The job of `report`.
@@ -253,15 +205,7 @@ fn report_job(alloc: Global, matches: &ArgMatches<'_>) -> Result<Job, WordsFault
 {
     let budget = budget(matches)?;
     let start = optional_value(alloc, matches, "start")?;
-    let (netlist, tests, proofs, report) = four_values(
-        alloc, matches, "netlist", "tests", "proofs", "report",
-    )?;
-    let files = RunFiles {
-        netlist,
-        tests,
-        report,
-        proofs,
-    };
+    let files = run_files(alloc, matches)?;
     Ok(Job::Report {
         files,
         budget,
@@ -271,12 +215,9 @@ fn report_job(alloc: Global, matches: &ArgMatches<'_>) -> Result<Job, WordsFault
 
 /// Whether the search is deep: the option's value is `plain` or `deep`.
 fn deep(matches: &ArgMatches<'_>) -> Result<bool, WordsFault>
-    ensures usage { result ≡ Err fault.Usage →
-        deep_of (first_of (codes "search") (rows_of (found_of matches.now))) ≡ None }
-    ensures ok { IfOk result (λ deep.
-        deep_of (first_of (codes "search") (rows_of (found_of matches.now))) ≡ Some deep) }
+    ensures { Reads (deep_of (first_of (codes "search") (rows_of (found_of matches.now)))) result }
 {
-    let Some(text) = matches.get_str("search") else {
+    let Some(text) = given_text(matches, "search") else {
         return Ok(false);
     };
     match text {
@@ -284,91 +225,4 @@ fn deep(matches: &ArgMatches<'_>) -> Result<bool, WordsFault>
         "deep" => Ok(true),
         _ => Err(WordsFault::Usage),
     }
-}
-
-/// The value of an argument that has to be there.
-fn value(alloc: Global, matches: &ArgMatches<'_>, id: &str) -> Result<FileName, WordsFault>
-    ensures usage { result ≡ Err fault.Usage → first_of id.now (rows_of (found_of matches.now))
-        ≡ None }
-    ensures ok { IfOk result (λ name. first_of id.now (rows_of (found_of matches.now))
-        ≡ Some name) }
-{
-    match matches.get_str(id) {
-        Some(text) => Ok(FileName::new(String::from_str(alloc, text)?)),
-        None => Err(WordsFault::Usage),
-    }
-}
-
-/// The value of an option, if it is given.
-fn optional_value(
-    alloc: Global,
-    matches: &ArgMatches<'_>,
-    id: &str,
-) -> Result<Option<FileName>, WordsFault>
-    ensures usage { result ≢ Err fault.Usage }
-    ensures ok { IfOk result (λ name. first_of id.now (rows_of (found_of matches.now)) ≡ name) }
-{
-    match matches.get_str(id) {
-        Some(text) => Ok(Some(FileName::new(String::from_str(alloc, text)?))),
-        None => Ok(None),
-    }
-}
-
-/// The values of two arguments that have to be there.
-fn two_values(
-    alloc: Global,
-    matches: &ArgMatches<'_>,
-    first: &str,
-    second: &str,
-) -> Result<(FileName, FileName), WordsFault>
-    ensures usage { result ≡ Err fault.Usage →
-        values_in (first.now ∷ second.now ∷ []) (rows_of (found_of matches.now)) ≡ None }
-    ensures ok { IfOk result (λ v.
-        values_in (first.now ∷ second.now ∷ []) (rows_of (found_of matches.now))
-        ≡ Some (v.0 ∷ v.1 ∷ [])) }
-{
-    let first = value(alloc, matches, first)?;
-    let second = value(alloc, matches, second)?;
-    Ok((first, second))
-}
-
-/// The values of three arguments that have to be there.
-fn three_values(
-    alloc: Global,
-    matches: &ArgMatches<'_>,
-    first: &str,
-    second: &str,
-    third: &str,
-) -> Result<(FileName, FileName, FileName), WordsFault>
-    ensures usage { result ≡ Err fault.Usage →
-        values_in (first.now ∷ second.now ∷ third.now ∷ []) (rows_of (found_of matches.now))
-        ≡ None }
-    ensures ok { IfOk result (λ v.
-        values_in (first.now ∷ second.now ∷ third.now ∷ []) (rows_of (found_of matches.now))
-        ≡ Some (v.0 ∷ v.1 ∷ v.2 ∷ [])) }
-{
-    let first = value(alloc, matches, first)?;
-    let (second, third) = two_values(alloc, matches, second, third)?;
-    Ok((first, second, third))
-}
-
-/// The values of four arguments that have to be there.
-fn four_values(
-    alloc: Global,
-    matches: &ArgMatches<'_>,
-    first: &str,
-    second: &str,
-    third: &str,
-    fourth: &str,
-) -> Result<(FileName, FileName, FileName, FileName), WordsFault>
-    ensures usage { result ≡ Err fault.Usage →
-        values_in (first.now ∷ second.now ∷ third.now ∷ fourth.now ∷ [])
-        (rows_of (found_of matches.now)) ≡ None }
-    ensures ok { IfOk result (λ v.
-        values_in (first.now ∷ second.now ∷ third.now ∷ fourth.now ∷ [])
-        (rows_of (found_of matches.now)) ≡ Some (v.0 ∷ v.1 ∷ v.2 ∷ v.3 ∷ [])) }
-{
-    let first = value(alloc, matches, first)?;
-    let (second, third, fourth) = three_values(alloc, matches, second, third, fourth)?;
-    Ok((first, second, third, fourth))
 }
