@@ -1,7 +1,6 @@
 -- What the outcome of the search for a cube answers and means, where the cube wants something.
-use Rattle.std.proofs.Common.{◌≡◌, ◌∙◌, ℕ, List, [], Result, IfOk, true, length, refl, sym, ap, subst}
+use Rattle.std.proofs.Common.{◌≡◌, ◌∙◌, ℕ, List, true, length, refl, sym, ap, subst}
 use Rattle.std.proofs.lemmas.Bool.{both_ways}
-use Rattle.std.proofs.lemmas.Result.{IfOk-weaker}
 use Rattle.ht_tern.specs.declared.tern.Tern.{Tern}
 use Rattle.ht_net.specs.Netlist.{Netlist}
 use Rattle.ht_net.specs.Rows.{Rows}
@@ -51,29 +50,18 @@ module _ (c : Netlist) (cube : List Tern) (limit budget : ℕ) (held : length cu
       record { wants = wants; tree = tree; exact = spent_exactly w budget tokens.items refl tree }
 
 -- the answer of a search that began at the first window alone
-module _ {E : Type 0} (c : Netlist) (cube : List Tern) (limit budget : ℕ) (first s : BackState) (o : Outcome) where
-  pub search_answers : length cube ≡ length c.dffs → is_wanting cube ≡ true
-      → first ≡ record { first = back_window c cube limit; above = []; decisions = [] } → s.first ≡ first.first
-      → IsOutcome (guide_of first.first) budget 1 (node_here s) o → (r : Result Back E)
-      → IfOk r (λ back. back ≡ answer_of (found_list s) o)
-      → IfOk r (IsBack c cube limit budget) × IfOk r (BackHolds c cube limit budget)
-  search_answers held wants began same h r is =
+module _ (c : Netlist) (cube : List Tern) (limit budget : ℕ) (s : BackState) (o : Outcome) where
+  pub search_answers : length cube ≡ length c.dffs → is_wanting cube ≡ true → s.first ≡ back_window c cube limit
+      → IsOutcome (guide_of (back_window c cube limit)) budget 1 (node_here s) o
+      → (back : Back) → back ≡ answer_of (found_list s) o
+      → IsBack c cube limit budget back × BackHolds c cube limit budget back
+  search_answers held wants window outcome back is =
       let node = node_here s in
-      let window = ap (λ (s : BackState). s.first) began in
-      let outcome = subst (λ (w : SearchWindow). IsOutcome (guide_of w) budget 1 node o) window h in
       let list : found_list s ≡ listed c cube limit budget held wants node =
       ap (λ (w : SearchWindow).
-      let r : Rows = record { width = w.circuit.inputs; list = back_list w.circuit node } in r)
-      (same ∙ window) in
-      let answer : (back : Back) → back ≡ answer_of (found_list s) o
-      → answer_of (listed c cube limit budget held wants node) o ≡ back = λ back is.
+      let r : Rows = record { width = w.circuit.inputs; list = back_list w.circuit node } in r) window in
+      let answer : answer_of (listed c cube limit budget held wants node) o ≡ back =
       sym (is ∙ ap (λ (r : Rows). answer_of r o) list) in (
-        IfOk-weaker r _ (IsBack c cube limit budget)
-            (λ back is. subst (IsBack c cube limit budget) (answer back is)
-            (outcome_answers c cube limit budget held wants node o outcome))
-            is,
-        IfOk-weaker r _ (BackHolds c cube limit budget)
-            (λ back is. subst (BackHolds c cube limit budget) (answer back is)
-            (outcome_holds c cube limit budget held wants node o outcome))
-            is,
+        subst (IsBack c cube limit budget) answer (outcome_answers c cube limit budget held wants node o outcome),
+        subst (BackHolds c cube limit budget) answer (outcome_holds c cube limit budget held wants node o outcome),
       )

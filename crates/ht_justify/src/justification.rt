@@ -1,5 +1,9 @@
 //! The justification of a cube.
-ghost use Rattle.std.specs.Prelude.{◌≡◌, length, IfOk};
+ghost use Rattle.std.specs.Prelude.{◌≡◌, ℕ, List, [], true, length, IfOk};
+ghost use Rattle.ht_tern.specs.declared.tern.Tern.{Tern};
+ghost use Rattle.ht_net.specs.Netlist.{Netlist};
+ghost use Rattle.ht_tree.specs.AimedAttempts.{is_wanting};
+ghost use Rattle.ht_tree.specs.Windows.{back_window};
 ghost use Rattle.ht_justify.specs.BackStates.{found_list};
 ghost use Rattle.ht_justify.specs.Answers.{BackHolds, IsBack, answer_of};
 
@@ -39,6 +43,41 @@ fn answer(windows: &BackWindows, outcome: Outcome) -> Result<Back, AllocError>
             tokens: Items::from_vec(tokens),
         }),
     }
+}
+
+// The first window of a cube, with the bases for those under it.
+fn begin<'c, 's>(
+    alloc: Global,
+    bases: &mut Bases<'c>,
+    cube: &'s [Tern],
+    limit: u32,
+) -> Result<BackWindows<'c, 's>, AllocError>
+    requires { length cube.now ≡ length bases.old.circuit.dffs }
+    ensures circuit { bases.new.circuit ≡ bases.old.circuit }
+    ensures windows { IfOk result (λ windows. windows ≡ record {
+      first = back_window bases.old.circuit cube.now limit;
+      above = [];
+      decisions = [];
+    }) }
+{
+    let own = bases.hand_over(alloc)?;
+    let windows = BackWindows::new(alloc, own, cube, limit)?;
+    Ok(windows)
+}
+
+// Searches from the first window of a cube that wants something.
+fn search_back(alloc: Global, windows: &mut BackWindows, budget: u64) -> Result<Back, AllocError>
+    requires { windows.old
+        ≡ record { first = windows.old.first; above = []; decisions = [] } }
+    ensures first { windows.new.first ≡ windows.old.first }
+    ensures answer { IfOk result (λ back. (c : Netlist) (cube : List Tern) (limit : ℕ)
+        → length cube ≡ length c.dffs → is_wanting cube ≡ true
+        → windows.old.first ≡ back_window c cube limit
+        → IsBack c cube limit budget back × BackHolds c cube limit budget back) }
+{
+    let outcome = search(alloc, windows, budget, 1)?;
+    let back = answer(windows, outcome)?;
+    Ok(back)
 }
 
 /// Searches back from a cube, which has a value for each flip-flop, unknown where none is wanted, for a list of at most
@@ -83,10 +122,8 @@ pub fn justify_from_bases(
             list: Vectors::new(alloc, bases.circuit().inputs()),
         });
     }
-    let own = bases.hand_over(alloc)?;
-    let mut windows = BackWindows::new(alloc, own, cube, limit)?;
-    let outcome = search(alloc, &mut windows, budget, 1)?;
-    let back = answer(&windows, outcome);
+    let mut windows = begin(alloc, bases, cube, limit)?;
+    let back = search_back(alloc, &mut windows, budget);
     bases.take_back(windows.into_bases());
     back
 }
