@@ -93,7 +93,7 @@ module _ (guide : ℕ → Guide) where
             (subst (λ (b : ℕ). SpendsAt (guide frames) b frames last n) left_is h);
       }
 
-      pub one_closes : (walk : List Token) (left' : ℕ) → Closes (guide frames) left frames walk
+      one_closes : (walk : List Token) (left' : ℕ) → Closes (guide frames) left frames walk
           → left' ≡ left - weight_of frames walk → IsClosedTo guide budget (frames + 1) left' (walks ++ walk ∷ [])
       one_closes walk left' h is =
           let count = closed.count in
@@ -160,3 +160,14 @@ module _ (guide : ℕ → Guide) where
     spends_record =
         subst (IsLengthRecord judge budget) (sym h.all)
         (record { complete = each_complete; unfinished = last_open; fills = all_fill })
+
+-- one length more is closed, where its walk is pushed and the weight of its tokens taken from the budget
+pub closes_more : {guide : ℕ → Guide} {budget frames left : ℕ} {walks more : List (List Token)}
+    {walk taken : List Token} → IsClosedTo guide budget frames left walks → Closes (guide frames) left frames walk
+    → taken ≡ walk → more ≡ walks ++ walk ∷ []
+    → IsClosedTo guide budget (frames + 1) (left - length taken * frames) more
+closes_more {guide = guide} {budget = budget} {frames = frames} {left = left} {walks = walks} {walk = walk}
+    {taken = taken} closed h same pushed =
+    subst (IsClosedTo guide budget (frames + 1) (left - length taken * frames)) (sym pushed)
+    (one_closes guide budget frames left walks closed walk (left - length taken * frames) h
+    (ap (λ (ts : List Token). left - length ts * frames) same))

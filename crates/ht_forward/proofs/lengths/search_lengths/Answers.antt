@@ -1,6 +1,5 @@
-use Rattle.std.proofs.Common.{◌∙◌, ◌+◌, ◌-◌, ◌*◌, ℕ, List, length, ap, sym, subst}
-use Rattle.ht_tree.specs.declared.token.Token.{Token}
-use Rattle.ht_forward.proofs.LengthsLaws.{IsClosedTo, frames_few, one_closes}
+use Rattle.std.proofs.Common.{◌∙◌, sym, subst}
+use Rattle.ht_forward.proofs.LengthsLaws.{closes_more, frames_few}
 use Rattle.ht_forward.specs.LengthAnswers.{FindsAfter}
 use Rattle.ht_forward.proofs.LengthFinds.{finds_after}
 use Rattle.ht_forward.proofs.lengths.search_lengths.Goals as goal
@@ -21,15 +20,7 @@ returns-in-Found-clause-answer g c =
 
 pub lengths-preserved : goal.lengths-preserved
 lengths-preserved g c =
-    let s = g.S.LengthSearch.subject c.args.search.now in
-    let guide = g.S.LengthSearch.guide s in
-    let tokens = ap (λ (ts : List Token). length ts * c.lengths.frames) c.as_slice.ensures in
     let closed = rw c.in-Closed.is at (rw c.lengths.invariant.0 at c.in_ok-list.ensures.answer) in (
       c.search.ensures.subject ∙ c.lengths.invariant.0,
-      subst (IsClosedTo guide c.args.budget (c.lengths.frames + 1)
-          (c.lengths.left - length c.as_slice.result.now * c.lengths.frames)) (sym c.in_ok-push-in-Closed.ensures.items)
-          (one_closes guide c.args.budget c.lengths.frames c.lengths.left c.lengths.walks.items
-          c.lengths.invariant.1 c.in-Closed.tokens
-          (c.lengths.left - length c.as_slice.result.now * c.lengths.frames) closed
-          (ap (λ (k : ℕ). c.lengths.left - k) tokens)),
+      closes_more c.lengths.invariant.1 closed c.as_slice.ensures c.in_ok-push-in-Closed.ensures.items,
     )

@@ -1,11 +1,10 @@
-use Rattle.std.proofs.Common.{◌∙◌, ◌+◌, ◌-◌, ◌*◌, ℕ, List, Some, length, ap, sym, subst, arith}
+use Rattle.std.proofs.Common.{◌∙◌, Some, sym, subst, arith}
 use Rattle.ht_net.specs.Netlist.{Netlist}
-use Rattle.ht_tree.specs.declared.token.Token.{Token}
 use Rattle.ht_tree.specs.Windows.{IsStart}
 use Rattle.ht_window.specs.Starts.{start_of}
 use Rattle.ht_forward.specs.Sweeps.{SweepSpends, sweep_guide, window_of}
 use Rattle.ht_forward.proofs.FoundLaws.{found_within}
-use Rattle.ht_forward.proofs.LengthsLaws.{IsClosedTo, frames_few, one_closes}
+use Rattle.ht_forward.proofs.LengthsLaws.{closes_more, frames_few}
 use Rattle.ht_forward.proofs.SweepLaws.{sweep_spends}
 use Rattle.ht_forward.proofs.sweeping.search_windows.Goals as goal
 
@@ -40,14 +39,7 @@ returns-in-Spent-clause-answer c =
 
 pub lengths-preserved : goal.lengths-preserved
 lengths-preserved c =
-    let guide = sweep_guide c.args.bases.now.circuit c.args.fault (start_of c.args.start.now) in
-    let tokens = ap (λ (ts : List Token). length ts * c.lengths.frames) c.as_slice.ensures in
     let closed = rw c.in-Closed.is at (rw c.lengths.invariant.0 at c.in_ok-list.ensures.answer) in (
       c.search_ahead.ensures.circuit ∙ c.lengths.invariant.0,
-      subst (IsClosedTo guide c.args.budget (c.lengths.frames + 1)
-          (c.lengths.left - length c.as_slice.result.now * c.lengths.frames)) (sym c.in_ok-push-in-Closed.ensures.items)
-          (one_closes guide c.args.budget c.lengths.frames c.lengths.left c.lengths.walks.items
-          c.lengths.invariant.1 c.in-Closed.tokens
-          (c.lengths.left - length c.as_slice.result.now * c.lengths.frames) closed
-          (ap (λ (n : ℕ). c.lengths.left - n) tokens)),
+      closes_more c.lengths.invariant.1 closed c.as_slice.ensures c.in_ok-push-in-Closed.ensures.items,
     )
