@@ -2,7 +2,8 @@
 use Rattle.std.proofs.Common.{◌≡◌, ◌+◌, ◌-◌, ◌∙◌, ℕ, suc, zero, List, [], ◌∷◌, ◌++◌, Bool, length, take, refl, sym, ap, arith, append_assoc, length-append}
 use Rattle.std.specs.Prelude.{flat_map}
 use Rattle.std.specs.List.{filter, range_with_len}
-use Rattle.std.proofs.lemmas.List.{append-nil, length-take}
+use Rattle.std.proofs.lemmas.List.{append-nil, length-take, map-id}
+use Rattle.std.proofs.lemmas.List.FromFn.{map-range_with_len_more}
 use Rattle.std.proofs.lemmas.List.Elements.{filter-append}
 use Rattle.std.proofs.lemmas.List.Concat.{flat_map-append}
 use Rattle.ht_tree.specs.declared.clause.Clause.{Clause}
@@ -40,12 +41,9 @@ module _ (test : Clause → Bool) (kept : List Clause) where
       ∙ (sym (take_append room first rest) ∙ ap (take room) (sym (filter-append test xs ys))))
 
 range_push : (a n : ℕ) → range_with_len a (n + 1) ≡ range_with_len a n ++ (a + n) ∷ []
-range_push a n = let e : n + 1 ≡ suc n = omega arith in ap (range_with_len a) e ∙ by a n
-  where
-    by : (a n : ℕ) → range_with_len a (suc n) ≡ range_with_len a n ++ (a + n) ∷ []
-    by a zero = let at : a ≡ a + 0 = omega arith in ap (λ (k : ℕ). k ∷ []) at
-    by a (suc n) = let at : a + 1 + n ≡ a + suc n = omega arith
-        in ap (λ (t : List ℕ). a ∷ t) (by (a + 1) n ∙ ap (λ (k : ℕ). range_with_len (a + 1) n ++ k ∷ []) at)
+range_push a n =
+    sym (map-id (range_with_len a (n + 1))) ∙ (map-range_with_len_more (λ (k : ℕ). k) a n (a + n) refl
+    ∙ ap (λ (l : List ℕ). l ++ (a + n) ∷ []) (map-id (range_with_len a n)))
 
 -- one more number of a range
 pub flat_range_more : {X : Type 0} → (f : ℕ → List X) (a n : ℕ)

@@ -1,10 +1,12 @@
 -- What a window under clauses says of the node where its decisions stand.
-use Rattle.std.proofs.Common.{◌≡◌, ◌∙◌, ℕ, List, [], ◌∷◌, true, false, IsTrue, sym, ap, subst}
+use Rattle.std.proofs.Common.{◌≡◌, ◌∙◌, ℕ, List, [], ◌∷◌, Bool, true, false, IsTrue, refl, sym, ap, subst, if◌then◌else◌}
+use Rattle.std.specs.List.{list_all, list_any}
 use Rattle.ht_tern.specs.declared.tern.Tern.{Tern}
 use Rattle.ht_net.specs.Netlist.{Netlist}
 use Rattle.ht_tree.specs.declared.token.Assign3.{Assign3}
 use Rattle.ht_tree.specs.declared.token.Choice.{Choice}
 use Rattle.ht_tree.specs.declared.token.Choice.TheVariants as choice
+use Rattle.ht_tree.specs.declared.token.Status3.{Status3}
 use Rattle.ht_tree.specs.declared.token.Status3.TheVariants as status3
 use Rattle.ht_tree.specs.Walks.{Node, Fits, decides, path_of}
 use Rattle.ht_tree.specs.Searches.{deciding_token, guide_of}
@@ -18,8 +20,9 @@ use Rattle.ht_search.proofs.WindowStepLaws.{window_path}
 use Rattle.ht_window.specs.States.{IsLegalDecision}
 use Rattle.ht_window.proofs.TrialLaws as trial
 use Rattle.ht_tree.specs.declared.clause.Clause.{Clause}
-use Rattle.ht_tree.specs.Clauses.{second_of}
-use Rattle.ht_tree.specs.ClauseWindows.{ClauseWindow, IsClauseWindow, IsSought, is_one_frame, status_under}
+use Rattle.ht_tree.specs.WindowStatus.{status_at, without_place}
+use Rattle.ht_tree.specs.Clauses.{literals_of_each, path_breaks, path_meets, second_of}
+use Rattle.ht_tree.specs.ClauseWindows.{ClauseWindow, IsClauseWindow, IsSought, is_one_frame, open_if_sure, status_under}
 use Rattle.ht_tree.specs.ClauseSearches.{guide_under, pick_under}
 use Rattle.ht_records.proofs.ChoiceLaws.{open_legal}
 use Rattle.ht_invariant.specs.declared.sought.Sought.{Sought}
@@ -94,3 +97,21 @@ module _ (w : SearchWindow) (sought : Sought) (clauses : List Clause) (ds : List
       } in
       fits_by chosen opens
       (subst (IsLegalChoice w ds) (sym is) (open_legal cw ds all (status_here ∙ opens)))
+
+-- a status that clauses leave sure is sure without them
+left_sure : (broken met : Bool) (status : Status3)
+    → (if broken then status3.Dead else if met then status else open_if_sure status) ≡ status3.Sure
+    → status ≡ status3.Sure
+left_sure true met status h = cc
+left_sure false true status h = h
+left_sure false false status3.Dead h = h
+left_sure false false status3.Sure h = refl
+left_sure false false status3.Open h = h
+
+pub sure_under : (w : SearchWindow) (clauses : List Clause) (path : List Assign3)
+    → status_under (clause_window w Difference clauses) path ≡ status3.Sure
+    → without_place (status_at w path) ≡ status3.Sure
+sure_under w clauses path h =
+    let literals = literals_of_each clauses in
+    left_sure (list_any (path_breaks w.circuit path) literals) (list_all (path_meets w.circuit path) literals)
+    (without_place (status_at w path)) h

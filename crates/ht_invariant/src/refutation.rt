@@ -19,9 +19,8 @@ use crate::sought::Sought;
 use crate::trial::{ClauseTrial, explore_under};
 use ht_items::Items;
 use ht_net::{Circuit, Fault};
-use ht_oneframe::{Round, marked, one_frame_window, told_frame};
-use ht_search::Outcome;
-use ht_tree::{Assign, Clause, Spot, Status, Token, Told};
+use ht_oneframe::{Round, marked, one_frame_window, round_of};
+use ht_tree::{Assign, Clause, Spot, Token, Told};
 use ht_window::Bases;
 use std::alloc::{AllocError, Global};
 
@@ -56,20 +55,9 @@ fn search_trial(alloc: Global, trial: &mut ClauseTrial, budget: u64) -> Result<R
         → IsRound c fault (guide_from c fault (literals_of_each trial.old.clauses.now)) budget z
         round) }
 {
-    match explore_under(alloc, trial, budget)? {
-        Outcome::Closed { tokens } => Ok(Round::Closed {
-            tokens: Items::from_vec(tokens),
-        }),
-        Outcome::Spent { tokens } => Ok(Round::Spent {
-            tokens: Items::from_vec(tokens),
-        }),
-        Outcome::Found { tokens: _ } => match trial.window.status() {
-            Status::Sure { frame: _, place } => Ok(Round::Told {
-                told: told_frame(alloc, &trial.window, place)?,
-            }),
-            Status::Dead | Status::Open => unreachable!(),
-        },
-    }
+    let outcome = explore_under(alloc, trial, budget)?;
+    let round = round_of(alloc, &trial.window, outcome)?;
+    Ok(round)
 }
 
 // Searches the one-frame window of a fault and marked flip-flops under clauses. Each token takes one from the budget.

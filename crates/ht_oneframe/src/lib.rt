@@ -11,7 +11,7 @@
 //! | File | Holds |
 //! |---|---|
 //! | refutation | the rounds: `refute`, `refute_from_bases` |
-//! | round | one search: its window (`one_frame_window`), what it comes to |
+//! | round | one search: its window (`one_frame_window`), what it comes to (`round_of`) |
 //! | telling | what a search tells |
 //! | marks | the set |
 #![tactic(auto)]
@@ -23,5 +23,4 @@ mod telling;
 
 pub use marks::marked;
 pub use refutation::{OneFrame, refute, refute_from_bases};
-pub use round::{Round, one_frame_window};
-pub use telling::told_frame;
+pub use round::{Round, one_frame_window, round_of};

@@ -3,7 +3,9 @@ ghost use Rattle.std.specs.Prelude.{◌≡◌, ℕ, List, [], length, IfOk};
 ghost use Rattle.ht_net.specs.Netlist.{Netlist};
 ghost use Rattle.ht_tree.specs.Windows as windows;
 ghost use Rattle.ht_window.specs.Starts.{marked};
-ghost use Rattle.ht_oneframe.specs.Rounds.{IsRound, guide_in};
+ghost use Rattle.ht_tree.specs.Searches.{Guide, node_at};
+ghost use Rattle.ht_search.specs.Outcomes.{IsOutcome};
+ghost use Rattle.ht_oneframe.specs.Rounds.{IsRound, LeavesSure, guide_in};
 
 use crate::telling::told_frame;
 use ht_items::Items;
@@ -47,6 +49,33 @@ pub fn one_frame_window<'c>(
     bases.window(alloc, Some(fault), 1, &start)
 }
 
+/// What the outcome of a one-frame window's search comes to. The window stands where the search left it.
+///
+/// # Errors
+/// Out of memory.
+pub fn round_of(alloc: Global, window: &Window, outcome: Outcome) -> Result<Round, AllocError>
+    requires { LeavesSure window.now.window window.now.decisions outcome }
+    ensures { IfOk result (λ round. (c : Netlist) (fault : Fault) (guide : List ℕ → Guide)
+        (budget : ℕ) (z : List ℕ) → window.now.window ≡ windows.one_frame_window c fault z
+        → IsOutcome (guide z) budget 1 (node_at window.now.decisions) outcome
+        → IsRound c fault guide budget z round) }
+{
+    match outcome {
+        Outcome::Closed { tokens } => Ok(Round::Closed {
+            tokens: Items::from_vec(tokens),
+        }),
+        Outcome::Spent { tokens } => Ok(Round::Spent {
+            tokens: Items::from_vec(tokens),
+        }),
+        Outcome::Found { tokens: _ } => match window.status() {
+            Status::Sure { frame: _, place } => Ok(Round::Told {
+                told: told_frame(alloc, window, place)?,
+            }),
+            Status::Dead | Status::Open => unreachable!(),
+        },
+    }
+}
+
 // Searches a one-frame window.
 fn search_trial(alloc: Global, trial: &mut Trial, budget: u64) -> Result<Round, AllocError>
     requires { trial.old.window.decisions ≡ [] }
@@ -54,20 +83,9 @@ fn search_trial(alloc: Global, trial: &mut Trial, budget: u64) -> Result<Round, 
         → trial.old.window.window ≡ windows.one_frame_window c fault z
         → IsRound c fault (guide_in c fault) budget z round) }
 {
-    match explore(alloc, trial, budget, 1)? {
-        Outcome::Closed { tokens } => Ok(Round::Closed {
-            tokens: Items::from_vec(tokens),
-        }),
-        Outcome::Spent { tokens } => Ok(Round::Spent {
-            tokens: Items::from_vec(tokens),
-        }),
-        Outcome::Found { tokens: _ } => match trial.window.status() {
-            Status::Sure { frame: _, place } => Ok(Round::Told {
-                told: told_frame(alloc, &trial.window, place)?,
-            }),
-            Status::Dead | Status::Open => unreachable!(),
-        },
-    }
+    let outcome = explore(alloc, trial, budget, 1)?;
+    let round = round_of(alloc, &trial.window, outcome)?;
+    Ok(round)
 }
 
 /// Searches the one-frame window of a fault in which the states may differ at the flip-flops that are marked. Each

@@ -6,15 +6,15 @@ use Rattle.ht_tree.specs.ToldChains.{is_output}
 use Rattle.ht_tree.specs.Clauses.{AreKnownClauses, literals_of_each}
 use Rattle.ht_window.specs.Starts.{marked}
 use Rattle.ht_records.proofs.MeetLaws.{clauses_known}
-use Rattle.ht_oneframe.specs.Rounds.{FindsFrame, SpendsIn}
+use Rattle.ht_oneframe.specs.Rounds.{FindsFrame, IsRound, SpendsIn}
 use Rattle.ht_oneframe.proofs.RoundLaws.{TellsMore, told_round}
-use Rattle.ht_invariant.specs.FromStates.{guide_from}
+use Rattle.ht_invariant.specs.FromStates.{FindsMembers, guide_from}
 use Rattle.ht_invariant.specs.Trials.{knows_each}
 use Rattle.ht_invariant.proofs.FindLaws.{each_known}
 use Rattle.ht_invariant.proofs.FromLaws.{budget_is_spent, depends, finds_members, frame_tells_under, output_is_told, set_is_least_from, spends_little}
 use Rattle.ht_invariant.proofs.MarkLaws.{none_set}
 use Rattle.ht_invariant.proofs.refutation.refute_under.Goals as goal
-use Rattle.ht_invariant.proofs.refutation.refute_under.Goals.{In-Told, In_ok-marks}
+use Rattle.ht_invariant.proofs.refutation.refute_under.Goals.{In-Told, In_ok-marks, In_ok-tokens}
 
 -- the circuit of the bases is well formed, and the clauses are its own
 valid : (c : In_ok-marks) → IsCircuit c.args.bases.now.circuit
@@ -22,6 +22,17 @@ valid c = rw c.circuit-circuit.ensures.circuit at c.nets.ensures.circuit
 
 known : (c : In_ok-marks) → AreKnownClauses c.args.bases.now.circuit (literals_of_each c.args.clauses.now)
 known c = clauses_known c.args.bases.now.circuit c.args.clauses.now c.requires
+
+-- what this round came to, and the set of the rounds before it under another name
+round : (c : In_ok-tokens) → IsRound c.args.bases.now.circuit c.args.fault
+    (guide_from c.args.bases.now.circuit c.args.fault (literals_of_each c.args.clauses.now)) c.args.budget
+    (marked 0 c.rounds.marks.items) c.in_ok-tokens.field-0
+round c = rw c.deref.ensures.value at (rw c.rounds.invariant.0 at c.in_ok-tokens.ensures.round)
+
+members : (c : In_ok-tokens) (z : List ℕ) → z ≡ marked 0 c.rounds.marks.items
+    → FindsMembers c.args.bases.now.circuit c.args.fault (literals_of_each c.args.clauses.now) c.args.budget z
+members c = finds_members c.args.bases.now.circuit c.args.fault (literals_of_each c.args.clauses.now) c.args.budget
+    c.rounds.marks.items c.rounds.invariant.1.0 c.rounds.invariant.1.1
 
 -- the frame that a round told, and what it makes of the rounds before it
 found : (c : In-Told) → FindsFrame c.args.bases.now.circuit c.args.fault
@@ -67,16 +78,12 @@ search_under-requires-clause-known c =
 
 pub returns-in-Closed-clause-answer : goal.returns-in-Closed-clause-answer
 returns-in-Closed-clause-answer c =
-    let n = c.args.bases.now.circuit in
-    let f = c.args.fault in
-    let ls = literals_of_each c.args.clauses.now in
-    let marks = c.rounds.marks.items in
-    let is : c.in_ok-z-in-Closed.z ≡ marked 0 marks =
-    c.in_ok-z-in-Closed.ensures ∙ ap (marked 0) c.deref-in-Closed.ensures.value in
-    let closes = rw c.deref.ensures.value at (rw c.in-Closed.is at (rw c.rounds.invariant.0
-    at c.in_ok-tokens.ensures.round)) in (
-      finds_members n f ls c.args.budget marks c.rounds.invariant.1.0 c.rounds.invariant.1.1 c.in_ok-z-in-Closed.z is,
-      subst (λ (z : List ℕ). Closes (guide_from n f ls z) c.args.budget 1 c.in-Closed.tokens) (sym is) closes,
+    let is = c.in_ok-z-in-Closed.ensures ∙ ap (marked 0) c.deref-in-Closed.ensures.value in
+    let closes = rw c.in-Closed.is at (round (goal.at.returns-in-Closed-clause-answer c).In_ok-tokens) in (
+      members (goal.at.returns-in-Closed-clause-answer c).In_ok-tokens c.in_ok-z-in-Closed.z is,
+      subst (λ (z : List ℕ). Closes
+          (guide_from c.args.bases.now.circuit c.args.fault (literals_of_each c.args.clauses.now) z) c.args.budget 1
+          c.in-Closed.tokens) (sym is) closes,
     )
 
 pub returns-in-Closed-clause-holds : goal.returns-in-Closed-clause-holds
@@ -89,16 +96,12 @@ returns-in-Closed-clause-holds c =
 
 pub returns-in-Spent-clause-answer : goal.returns-in-Spent-clause-answer
 returns-in-Spent-clause-answer c =
-    let n = c.args.bases.now.circuit in
-    let f = c.args.fault in
-    let ls = literals_of_each c.args.clauses.now in
-    let marks = c.rounds.marks.items in
-    let is : c.in_ok-z-in-Spent.z ≡ marked 0 marks =
-    c.in_ok-z-in-Spent.ensures ∙ ap (marked 0) c.deref-in-Spent.ensures.value in
-    let spends = rw c.deref.ensures.value at (rw c.in-Spent.is at (rw c.rounds.invariant.0
-    at c.in_ok-tokens.ensures.round)) in (
-      finds_members n f ls c.args.budget marks c.rounds.invariant.1.0 c.rounds.invariant.1.1 c.in_ok-z-in-Spent.z is,
-      subst (λ (z : List ℕ). SpendsIn (guide_from n f ls) c.args.budget z c.in-Spent.tokens) (sym is) spends,
+    let is = c.in_ok-z-in-Spent.ensures ∙ ap (marked 0) c.deref-in-Spent.ensures.value in
+    let spends = rw c.in-Spent.is at (round (goal.at.returns-in-Spent-clause-answer c).In_ok-tokens) in (
+      members (goal.at.returns-in-Spent-clause-answer c).In_ok-tokens c.in_ok-z-in-Spent.z is,
+      subst (λ (z : List ℕ). SpendsIn
+          (guide_from c.args.bases.now.circuit c.args.fault (literals_of_each c.args.clauses.now)) c.args.budget z
+          c.in-Spent.tokens) (sym is) spends,
     )
 
 pub returns-in-Spent-clause-holds : goal.returns-in-Spent-clause-holds
@@ -136,16 +139,12 @@ rounds-preserved c =
 
 pub returns-in-Output-clause-answer : goal.returns-in-Output-clause-answer
 returns-in-Output-clause-answer c =
-    let n = c.args.bases.now.circuit in
-    let f = c.args.fault in
-    let ls = literals_of_each c.args.clauses.now in
-    let marks = c.rounds.marks.items in
-    let is : c.in_ok-z-in-Output.z ≡ marked 0 marks =
-    c.in_ok-z-in-Output.ensures ∙ ap (marked 0) c.deref-in-Output.ensures.value in (
-      finds_members n f ls c.args.budget marks c.rounds.invariant.1.0 c.rounds.invariant.1.1 c.in_ok-z-in-Output.z is,
+    let is = c.in_ok-z-in-Output.ensures ∙ ap (marked 0) c.deref-in-Output.ensures.value in (
+      members (goal.at.returns-in-Output-clause-answer c).In_ok-tokens c.in_ok-z-in-Output.z is,
       ap is_output c.in-Output.is,
-      subst (λ (z : List ℕ). FindsFrame n f (guide_from n f ls) c.args.budget z c.in-Told.told) (sym is)
-          (found (goal.at.returns-in-Output-clause-answer c).In-Told),
+      subst (λ (z : List ℕ). FindsFrame c.args.bases.now.circuit c.args.fault
+          (guide_from c.args.bases.now.circuit c.args.fault (literals_of_each c.args.clauses.now)) c.args.budget z
+          c.in-Told.told) (sym is) (found (goal.at.returns-in-Output-clause-answer c).In-Told),
     )
 
 pub returns-in-Output-clause-holds : goal.returns-in-Output-clause-holds
