@@ -2,6 +2,7 @@
 //! compare.
 //!
 //! An entry crosses as a row of numbers: each list by its length and its members, each choice by its number from 0.
+mod lines;
 mod numbers;
 mod pairs;
 mod passes;
@@ -9,7 +10,6 @@ mod proofs_text;
 mod reports;
 mod row;
 
-use crate::MAX_BYTES;
 use crate::entries::passes::{passes, written};
 use crate::entries::proofs_text::proofs_row;
 use crate::entries::reports::report_row;
@@ -51,9 +51,6 @@ pub extern "C" fn ht_entries_report(
     ends: &[usize],
     row: &mut [u64],
 ) -> u64 {
-    if netlist.len() > MAX_BYTES {
-        return u64::MAX;
-    }
     put(row, report_row(alloc, netlist, text, ends).ok())
 }
 
@@ -79,7 +76,7 @@ pub extern "C" fn ht_entries_passes(
     budget: u64,
     numbers: &[u64],
 ) -> u8 {
-    if netlist.len() > MAX_BYTES || budget > MAX_BUDGET {
+    if budget > MAX_BUDGET {
         return 2;
     }
     match passes(alloc, netlist, fault, budget, numbers) {

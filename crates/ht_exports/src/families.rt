@@ -1,12 +1,13 @@
 //! Families that close, which `model/families` compares and `bench/families` times.
 //!
 //! A start crosses as a number for each flip-flop: 0, 1, or 2 for unknown. A family crosses as the bits of its sets.
-ghost use Rattle.std.specs.Prelude.{◌≡◌, ◌≤◌, length, IfOk};
+ghost use Rattle.std.specs.Prelude.{◌≡◌, length, IfOk, IfSome};
+ghost use Rattle.ht_net.specs.Detection.{IsStart};
 
-use crate::MAX_BYTES;
-use ht_bench::read;
+use crate::netlist::read_circuit;
 use ht_families::{closes, closing};
 use ht_faults::list;
+use ht_net::{Circuit, Fault};
 use ht_pairs::PairSet;
 use ht_tern::Tern;
 use std::alloc::{AllocError, Global};
@@ -27,6 +28,34 @@ fn start_of(alloc: Global, numbers: &[u8]) -> Result<Vec<Tern>, AllocError>
     numbers.iter().map(|number| value(*number)).collect(alloc)
 }
 
+// What is asked about: a circuit, one of its faults, and a start.
+#[derive(Drop)]
+struct Question {
+    circuit: Circuit,
+    fault: Fault,
+    start: Vec<Tern>,
+}
+
+// What is asked, unless the netlist is refused, there is no such fault or start, there isn't a set for each flip-flop, or
+// memory ran out.
+fn asked(alloc: Global, netlist: &[u8], fault: u32, numbers: &[u8], sets: usize) -> Option<Question>
+    ensures start { IfSome result (λ asked. IsStart asked.circuit asked.start.items) }
+    ensures sets { IfSome result (λ asked. sets ≡ length asked.circuit.dffs) }
+{
+    let circuit = read_circuit(alloc, netlist)?;
+    let faults = list(alloc, &circuit).ok()?;
+    let start = start_of(alloc, numbers).ok()?;
+    let width = circuit.dffs() as usize;
+    if fault >= faults.len() || start.len() != width || sets != width {
+        return None;
+    }
+    Some(Question {
+        circuit,
+        fault: faults.get(fault),
+        start,
+    })
+}
+
 // Puts the least family that closes for a fault into the sets, if there is one.
 fn find(
     alloc: Global,
@@ -34,17 +63,9 @@ fn find(
     fault: u32,
     numbers: &[u8],
     sets: &mut [PairSet],
-) -> Option<bool>
-    requires { length netlist.now ≤ MAX_BYTES }
-{
-    let circuit = read(alloc, netlist).ok()?;
-    let faults = list(alloc, &circuit).ok()?;
-    let start = start_of(alloc, numbers).ok()?;
-    let width = circuit.dffs() as usize;
-    if fault >= faults.len() || start.len() != width || sets.len() != width {
-        return None;
-    }
-    match closing(alloc, &circuit, faults.get(fault), &start).ok()? {
+) -> Option<bool> {
+    let question = asked(alloc, netlist, fault, numbers, sets.len())?;
+    match closing(alloc, &question.circuit, question.fault, &question.start).ok()? {
         Some(family) => {
             sets.copy_from_slice(&family);
             Some(true)
@@ -60,24 +81,21 @@ fn judge(
     fault: u32,
     numbers: &[u8],
     sets: &[PairSet],
-) -> Option<bool>
-    requires { length netlist.now ≤ MAX_BYTES }
-{
-    let circuit = read(alloc, netlist).ok()?;
-    let faults = list(alloc, &circuit).ok()?;
-    let start = start_of(alloc, numbers).ok()?;
-    let width = circuit.dffs() as usize;
-    if fault >= faults.len() || start.len() != width || sets.len() != width {
-        return None;
-    }
-    closes(alloc, &circuit, faults.get(fault), &start, sets).ok()
+) -> Option<bool> {
+    let question = asked(alloc, netlist, fault, numbers, sets.len())?;
+    closes(
+        alloc,
+        &question.circuit,
+        question.fault,
+        &question.start,
+        sets,
+    )
+    .ok()
 }
 
 // How many listed faults have a family that closes, from all-unknown.
-fn count(alloc: Global, netlist: &[u8]) -> Option<u64>
-    requires { length netlist.now ≤ MAX_BYTES }
-{
-    let circuit = read(alloc, netlist).ok()?;
+fn count(alloc: Global, netlist: &[u8]) -> Option<u64> {
+    let circuit = read_circuit(alloc, netlist)?;
     let faults = list(alloc, &circuit).ok()?;
     let start = vec![in alloc; Tern::Unk; circuit.dffs() as usize].ok()?;
     let mut closed = 0;
@@ -109,9 +127,6 @@ pub extern "C" fn ht_families_closing(
     start: &[u8],
     sets: &mut [PairSet],
 ) -> u8 {
-    if netlist.len() > MAX_BYTES {
-        return 2;
-    }
     numbered(find(alloc, netlist, fault, start, sets))
 }
 
@@ -124,9 +139,6 @@ pub extern "C" fn ht_families_closes(
     start: &[u8],
     sets: &[PairSet],
 ) -> u8 {
-    if netlist.len() > MAX_BYTES {
-        return 2;
-    }
     numbered(judge(alloc, netlist, fault, start, sets))
 }
 
@@ -134,8 +146,5 @@ pub extern "C" fn ht_families_closes(
 /// is refused or memory ran out.
 #[unsafe(no_mangle)]
 pub extern "C" fn ht_families_count(alloc: Global, netlist: &[u8]) -> u64 {
-    if netlist.len() > MAX_BYTES {
-        return u64::MAX;
-    }
     count(alloc, netlist).unwrap_or(u64::MAX)
 }

@@ -2,13 +2,11 @@
 //! plain Rust. No crate stands on it.
 //!
 //! `lift` has gates over sets of pairs, `window` decisions in a window, `families` families of sets that close, and
-//! `entries` the writer, the readers and the checker of entries, and the reader of reports.
+//! `entries` the writer, the readers and the checker of entries, and the reader of reports. They read a `netlist`.
 #![tactic(auto)]
 
 mod entries;
 mod families;
 mod lift;
+mod netlist;
 mod window;
-
-// The most bytes of a netlist.
-const MAX_BYTES: usize = 16_777_216;

@@ -1,8 +1,7 @@
 //! The decisions of a window, which `bench/window` times.
-ghost use Rattle.std.specs.Prelude.{◌≡◌, ◌<◌, ◌≤◌, length};
+ghost use Rattle.std.specs.Prelude.{◌≡◌, ◌<◌, ◌≤◌};
 
-use crate::MAX_BYTES;
-use ht_bench::read;
+use crate::netlist::read_circuit;
 use ht_tern::Tern;
 use ht_window::{MAX_FRAMES, Start, Window};
 use std::alloc::{AllocError, Global};
@@ -44,11 +43,10 @@ fn undo_all(window: &mut Window)
 
 // Decides all in a window from an unknown state, and takes it back if that is wanted. How many decisions stand then.
 fn decisions(alloc: Global, text: &[u8], frames: u32, decide: bool, undo: bool) -> Option<usize>
-    requires text { length text.now ≤ MAX_BYTES }
     requires some { 0 < frames }
     requires few { frames ≤ MAX_FRAMES }
 {
-    let circuit = read(alloc, text).ok()?;
+    let circuit = read_circuit(alloc, text)?;
     let inputs = circuit.inputs();
     let mut window = Window::new(alloc, &circuit, None, frames, &Start::Unknown).ok()?;
     if decide {
@@ -71,7 +69,7 @@ pub extern "C" fn ht_window_decisions(
     decide: bool,
     undo: bool,
 ) -> u64 {
-    if text.len() > MAX_BYTES || frames == 0 || frames > MAX_FRAMES {
+    if frames == 0 || frames > MAX_FRAMES {
         return u64::MAX;
     }
     match decisions(alloc, text, frames, decide, undo) {

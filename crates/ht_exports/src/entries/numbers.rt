@@ -205,14 +205,19 @@ fn push_steps(row: &mut Vec<u64>, steps: &[ClauseStep]) -> Result<(), AllocError
     Ok(())
 }
 
+// The flip-flops at which the states may differ, and the walk.
+fn push_frame(row: &mut Vec<u64>, z: &[u32], tokens: &[Token]) -> Result<(), AllocError> {
+    push_numbers(row, z)?;
+    push_tokens(row, tokens)
+}
+
 /// Appends the numbers of an entry: 0 and an untestable one, 1 and an aborted one, 2 and an untestable one from a state,
 /// 3 and an undetectable one by sets, or 4 and one by cubes.
 pub fn push_entry(row: &mut Vec<u64>, entry: &Entry) -> Result<(), AllocError> {
     match entry {
         Entry::Untestable { z, tokens } => {
             row.push(0)?;
-            push_numbers(row, z.as_slice())?;
-            push_tokens(row, tokens.as_slice())
+            push_frame(row, z.as_slice(), tokens.as_slice())
         }
         Entry::UntestableFrom {
             state,
@@ -223,8 +228,7 @@ pub fn push_entry(row: &mut Vec<u64>, entry: &Entry) -> Result<(), AllocError> {
             row.push(2)?;
             push_bits(row, state.as_slice())?;
             push_clauses(row, clauses.as_slice())?;
-            push_numbers(row, z.as_slice())?;
-            push_tokens(row, tokens.as_slice())
+            push_frame(row, z.as_slice(), tokens.as_slice())
         }
         Entry::UndetectableBySets { rows } => {
             row.push(3)?;

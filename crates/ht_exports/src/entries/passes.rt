@@ -1,10 +1,9 @@
 //! Entries from rows of numbers, judged and written.
-ghost use Rattle.std.specs.Prelude.{◌≤◌, length};
+ghost use Rattle.std.specs.Prelude.{◌≤◌};
 ghost use Rattle.ht_tree.specs.declared.limits.TheConstants.{MAX_BUDGET};
 
-use crate::MAX_BYTES;
 use crate::entries::row::{Row, take_entry};
-use ht_bench::read;
+use crate::netlist::read_circuit;
 use ht_check::entry;
 use ht_entries::write_entry;
 use ht_faults::list;
@@ -21,10 +20,9 @@ pub fn passes(
     budget: u64,
     numbers: &[u64],
 ) -> Option<bool>
-    requires netlist { length netlist.now ≤ MAX_BYTES }
-    requires budget { budget ≤ MAX_BUDGET }
+    requires { budget ≤ MAX_BUDGET }
 {
-    let circuit = read(alloc, netlist).ok()?;
+    let circuit = read_circuit(alloc, netlist)?;
     let faults = list(alloc, &circuit).ok()?;
     if fault >= faults.len() {
         return None;

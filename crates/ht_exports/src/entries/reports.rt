@@ -1,9 +1,7 @@
 //! Reports as rows of numbers.
-ghost use Rattle.std.specs.Prelude.{◌≡◌, ◌≤◌, length, IfOk, IsTrue};
-
-use crate::MAX_BYTES;
+use crate::entries::lines::{RowReader, take_lines};
 use crate::entries::numbers::push_end;
-use ht_bench::read;
+use crate::netlist::read_circuit;
 use ht_faults::{collapse, list};
 use ht_texts::{Item, ReportReader, Said};
 use std::alloc::{AllocError, Global};
@@ -42,45 +40,27 @@ fn push_item(row: &mut Vec<u64>, item: Item) -> Result<(), AllocError> {
     }
 }
 
-// Reads a line and appends what it says; false where it is malformed.
-fn take_line(reader: &mut ReportReader, line: &[u8], row: &mut Vec<u64>) -> Result<bool, AllocError>
-    requires { IsTrue reader.old.live }
-    ensures { IfOk result (λ taken. reader.new.live ≡ taken) }
-{
-    match reader.line(line) {
-        Ok(item) => {
-            push_item(row, item)?;
-            Ok(true)
-        }
-        Err(error) => {
-            push_end(row, error.line)?;
-            Ok(false)
-        }
-    }
-}
+impl<'c> RowReader for ReportReader<'c> {
+    ghost is_live = { λ reader. reader.live };
 
-// Reads lines, the next from where the one before ended, and then the end; nothing after a malformed line.
-fn take_lines(
-    reader: &mut ReportReader,
-    text: &[u8],
-    ends: &[usize],
-    row: &mut Vec<u64>,
-) -> Result<(), AllocError>
-    requires { IsTrue reader.old.live }
-{
-    let mut start = 0;
-    for end in ends {
-        if *end < start || *end > text.len() {
-            return Err(AllocError);
+    fn take_line(&mut self, _: usize, line: &[u8], row: &mut Vec<u64>) -> Result<bool, AllocError> {
+        match self.line(line) {
+            Ok(item) => {
+                push_item(row, item)?;
+                Ok(true)
+            }
+            Err(error) => {
+                push_end(row, error.line)?;
+                Ok(false)
+            }
         }
-        if !take_line(reader, &text[start..*end], row)? {
-            return Ok(());
-        }
-        start = *end;
     }
-    match reader.end() {
-        Ok(()) => push_end(row, 0),
-        Err(error) => push_end(row, error.line),
+
+    fn take_end(&mut self, row: &mut Vec<u64>) -> Result<(), AllocError> {
+        match self.end() {
+            Ok(()) => push_end(row, 0),
+            Err(error) => push_end(row, error.line),
+        }
     }
 }
 
@@ -91,10 +71,8 @@ pub fn report_row(
     netlist: &[u8],
     text: &[u8],
     ends: &[usize],
-) -> Result<Vec<u64>, AllocError>
-    requires { length netlist.now ≤ MAX_BYTES }
-{
-    let Ok(circuit) = read(alloc, netlist) else {
+) -> Result<Vec<u64>, AllocError> {
+    let Some(circuit) = read_circuit(alloc, netlist) else {
         return Err(AllocError);
     };
     let faults = list(alloc, &circuit)?;

@@ -40,6 +40,18 @@ impl<'r> Row<'r> {
     }
 }
 
+// As many members as the next number says, each by an expression that takes it from the row.
+macro_rules! take_list {
+    ($alloc:ident, $row:ident, $take:expr) => {{
+        let mut members = Vec::new($alloc);
+        for _ in 0..$row.next()? {
+            let member = $take;
+            members.push(member)?;
+        }
+        Ok(Items::from_vec(members))
+    }};
+}
+
 fn take_token(row: &mut Row) -> Result<Token, AllocError> {
     let kind = row.next()?;
     let var = row.next_u32()?;
@@ -53,31 +65,21 @@ fn take_token(row: &mut Row) -> Result<Token, AllocError> {
 }
 
 fn take_tokens(alloc: Global, row: &mut Row) -> Result<Items<Token>, AllocError> {
-    let mut tokens = Items::new(alloc);
-    for _ in 0..row.next()? {
-        let token = take_token(row)?;
-        tokens.push(token)?;
-    }
-    Ok(tokens)
+    take_list!(alloc, row, take_token(row)?)
 }
 
 fn take_numbers(alloc: Global, row: &mut Row) -> Result<Items<u32>, AllocError> {
-    let mut numbers = Items::new(alloc);
-    for _ in 0..row.next()? {
-        let number = row.next_u32()?;
-        numbers.push(number)?;
-    }
-    Ok(numbers)
+    take_list!(alloc, row, row.next_u32()?)
+}
+
+fn take_assign(row: &mut Row) -> Result<Assign, AllocError> {
+    let var = row.next_u32()?;
+    let value = row.next()? == 1;
+    Ok(Assign { var, value })
 }
 
 fn take_sets(alloc: Global, row: &mut Row) -> Result<Items<Assign>, AllocError> {
-    let mut sets = Items::new(alloc);
-    for _ in 0..row.next()? {
-        let var = row.next_u32()?;
-        let value = row.next()? == 1;
-        sets.push(Assign { var, value })?;
-    }
-    Ok(sets)
+    take_list!(alloc, row, take_assign(row)?)
 }
 
 fn take_told(alloc: Global, row: &mut Row) -> Result<Told, AllocError> {
@@ -93,22 +95,12 @@ fn take_told(alloc: Global, row: &mut Row) -> Result<Told, AllocError> {
 }
 
 fn take_chain(alloc: Global, row: &mut Row) -> Result<Items<Told>, AllocError> {
-    let mut chain = Vec::new(alloc);
-    for _ in 0..row.next()? {
-        let told = take_told(alloc, row)?;
-        chain.push(told)?;
-    }
-    Ok(Items::from_vec(chain))
+    take_list!(alloc, row, take_told(alloc, row)?)
 }
 
 // The bits of a vector after its width.
-fn take_bits(alloc: Global, row: &mut Row) -> Result<Vec<bool>, AllocError> {
-    let mut bits = Vec::new(alloc);
-    for _ in 0..row.next()? {
-        let bit = row.next()? == 1;
-        bits.push(bit)?;
-    }
-    Ok(bits)
+fn take_bits(alloc: Global, row: &mut Row) -> Result<Items<bool>, AllocError> {
+    take_list!(alloc, row, row.next()? == 1)
 }
 
 // Vectors of a width.
@@ -116,10 +108,10 @@ fn take_vectors(alloc: Global, row: &mut Row, width: u32) -> Result<Vectors, All
     let mut vectors = Vectors::new(alloc, width);
     for _ in 0..row.next()? {
         let vector = take_bits(alloc, row)?;
-        if vector.len() != width as usize {
+        if vector.as_slice().len() != width as usize {
             return Err(AllocError);
         }
-        vectors.push(&vector)?;
+        vectors.push(vector.as_slice())?;
     }
     Ok(vectors)
 }
@@ -150,12 +142,7 @@ fn take_walk(alloc: Global, row: &mut Row) -> Result<Option<Items<Token>>, Alloc
 }
 
 fn take_walks(alloc: Global, row: &mut Row) -> Result<Items<Items<Token>>, AllocError> {
-    let mut walks = Vec::new(alloc);
-    for _ in 0..row.next()? {
-        let walk = take_tokens(alloc, row)?;
-        walks.push(walk)?;
-    }
-    Ok(Items::from_vec(walks))
+    take_list!(alloc, row, take_tokens(alloc, row)?)
 }
 
 fn take_literal(row: &mut Row) -> Result<Literal, AllocError> {
@@ -179,25 +166,25 @@ fn take_clause(alloc: Global, row: &mut Row) -> Result<Clause, AllocError> {
 }
 
 fn take_clauses(alloc: Global, row: &mut Row) -> Result<Items<Clause>, AllocError> {
-    let mut clauses = Vec::new(alloc);
-    for _ in 0..row.next()? {
-        let clause = take_clause(alloc, row)?;
-        clauses.push(clause)?;
-    }
-    Ok(Items::from_vec(clauses))
+    take_list!(alloc, row, take_clause(alloc, row)?)
+}
+
+// The flip-flops at which the states may differ, and the walk.
+fn take_frame(alloc: Global, row: &mut Row) -> Result<(Items<u32>, Items<Token>), AllocError> {
+    let z = take_numbers(alloc, row)?;
+    let tokens = take_tokens(alloc, row)?;
+    Ok((z, tokens))
 }
 
 fn take_untestable(alloc: Global, row: &mut Row) -> Result<Entry, AllocError> {
-    let z = take_numbers(alloc, row)?;
-    let tokens = take_tokens(alloc, row)?;
+    let (z, tokens) = take_frame(alloc, row)?;
     Ok(Entry::Untestable { z, tokens })
 }
 
 fn take_untestable_from(alloc: Global, row: &mut Row) -> Result<Entry, AllocError> {
-    let state = Items::from_vec(take_bits(alloc, row)?);
+    let state = take_bits(alloc, row)?;
     let clauses = take_clauses(alloc, row)?;
-    let z = take_numbers(alloc, row)?;
-    let tokens = take_tokens(alloc, row)?;
+    let (z, tokens) = take_frame(alloc, row)?;
     Ok(Entry::UntestableFrom {
         state,
         clauses,
@@ -233,16 +220,19 @@ fn take_set(row: &mut Row) -> Result<PairSet, AllocError> {
     Ok(set)
 }
 
+fn take_family_row(row: &mut Row) -> Result<FamilyRow, AllocError> {
+    let dff = row.next_u32()?;
+    let set = take_set(row)?;
+    Ok(FamilyRow { dff, set })
+}
+
+fn take_rows(alloc: Global, row: &mut Row) -> Result<Items<FamilyRow>, AllocError> {
+    take_list!(alloc, row, take_family_row(row)?)
+}
+
 fn take_by_sets(alloc: Global, row: &mut Row) -> Result<Entry, AllocError> {
-    let mut rows = Vec::new(alloc);
-    for _ in 0..row.next()? {
-        let dff = row.next_u32()?;
-        let set = take_set(row)?;
-        rows.push(FamilyRow { dff, set })?;
-    }
-    Ok(Entry::UndetectableBySets {
-        rows: Items::from_vec(rows),
-    })
+    let rows = take_rows(alloc, row)?;
+    Ok(Entry::UndetectableBySets { rows })
 }
 
 fn take_rail(row: &mut Row) -> Result<Rail, AllocError> {
@@ -253,42 +243,32 @@ fn take_rail(row: &mut Row) -> Result<Rail, AllocError> {
 }
 
 fn take_cube(alloc: Global, row: &mut Row) -> Result<Cube, AllocError> {
-    let mut rails = Vec::new(alloc);
-    for _ in 0..row.next()? {
-        let rail = take_rail(row)?;
-        rails.push(rail)?;
-    }
-    Ok(Items::from_vec(rails))
+    take_list!(alloc, row, take_rail(row)?)
 }
 
 fn take_cubes(alloc: Global, row: &mut Row) -> Result<Items<Cube>, AllocError> {
-    let mut cubes = Vec::new(alloc);
-    for _ in 0..row.next()? {
-        let cube = take_cube(alloc, row)?;
-        cubes.push(cube)?;
-    }
-    Ok(Items::from_vec(cubes))
+    take_list!(alloc, row, take_cube(alloc, row)?)
 }
 
-// Signed variables, each by its value and its number.
+// A signed variable, by its value and its number.
+fn take_signed_var(row: &mut Row) -> Result<SignedVar, AllocError> {
+    let value = row.next()? == 1;
+    let variable = row.next_u32()?;
+    Ok(SignedVar { variable, value })
+}
+
 fn take_signed(alloc: Global, row: &mut Row) -> Result<Items<SignedVar>, AllocError> {
-    let mut literals = Vec::new(alloc);
-    for _ in 0..row.next()? {
-        let value = row.next()? == 1;
-        let variable = row.next_u32()?;
-        literals.push(SignedVar { variable, value })?;
-    }
-    Ok(Items::from_vec(literals))
+    take_list!(alloc, row, take_signed_var(row)?)
+}
+
+fn take_step(alloc: Global, row: &mut Row) -> Result<ClauseStep, AllocError> {
+    let literals = take_signed(alloc, row)?;
+    let hints = take_numbers(alloc, row)?;
+    Ok(ClauseStep { literals, hints })
 }
 
 fn take_steps(alloc: Global, row: &mut Row) -> Result<Items<ClauseStep>, AllocError> {
-    let mut steps = Vec::new(alloc);
-    for _ in 0..row.next()? {
-        let literals = take_signed(alloc, row)?;
-        let hints = take_numbers(alloc, row)?;
-        steps.push(ClauseStep { literals, hints })?;
-    }
-    Ok(Items::from_vec(steps))
+    take_list!(alloc, row, take_step(alloc, row)?)
 }
 
 fn take_by_cubes(alloc: Global, row: &mut Row) -> Result<Entry, AllocError> {
