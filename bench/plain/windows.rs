@@ -218,11 +218,16 @@ impl<'c> Window<'c> {
     fn fill_by_events(&mut self, fault: Option<Fault>) {
         let nets = self.plan.circuit.nets();
         let is_small = nets < FEWEST_NETS;
-        let mut base = self.plan.bases[self.start.kind()].borrow_mut();
+        // In a large circuit nets that don't matter keep what the base has, which no state of a pair may decide.
+        let start = match &self.start {
+            Start::Pair { .. } if !is_small => Start::Unknown,
+            start => start.clone(),
+        };
+        let mut base = self.plan.bases[start.kind()].borrow_mut();
         if base.cells.len() < self.frames * nets {
             let fault = fault.filter(|_| is_small);
             let mut window = Window::new(self.plan);
-            window.clear(fault, self.frames, self.start.clone());
+            window.clear(fault, self.frames, start);
             window.fill_whole();
             *base = Base { fault, cells: window.cells };
         }
