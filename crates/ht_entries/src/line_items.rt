@@ -122,7 +122,7 @@ fn next_parsed<W: Word>(text: &[u8]) -> Option<(W, &[u8])>
 // ---- items
 
 // What stands in a line after a space, once or several times.
-pub trait Item: Copy {
+pub trait Item: Sized + Drop {
     // its text with the space, and which have one
     ghost text_of: { Self → List ℕ };
 
@@ -222,13 +222,13 @@ pub fn take_items<T: Item>(alloc: Global, text: &[u8]) -> Result<(Items<T>, &[u8
         (λ taken. AreTaken T.text_of T.HasText text.now taken.0 taken.1.now) }
     ensures all { IfOk result (λ taken. HasNoItem T.text_of T.HasText taken.1.now) }
 {
-    let mut items = Items::new(alloc);
+    let mut items = Vec::new(alloc);
     let mut rest = text;
     while let Some((item, after)) = T::next(rest) {
         items.push(item)?;
         rest = after;
     }
-    Ok((items, rest))
+    Ok((Items::from_vec(items), rest))
 }
 
 // The items that stand after a word, to the end of the text: one or more.
