@@ -13,7 +13,8 @@ use Rattle.ht_entries.specs.declared.limits.TheConstants.{MAX_PROOF_LINE_BYTES}
 use Rattle.ht_entries.specs.LineWords.{max_number, IsNumber}
 use Rattle.ht_entries.specs.ItemTexts.{spaced, AreItems, AreSome, HasNoItem, IsNextItem}
 use Rattle.ht_entries.specs.ByCubes.{bit_word, machine_word, rail_text, signed_word, cube_text, hints_text, step_text, AreHints, IsAnyBit, IsCubeText, IsRailText, IsSignedText, IsStepText}
-use Rattle.ht_entries.proofs.ItemLaws.{IsNoSpace, SomeItem, TakesAll, items_after_are_read, no_items_after, no_space_no_item, no_word_no_item, take_all, word_is_item, word_or_not}
+use Rattle.ht_entries.proofs.SpaceLaws.{IsNoSpace}
+use Rattle.ht_entries.proofs.ItemLaws.{SomeItem, TakesAll, items_after_are_read, no_items_after, no_space_no_item, no_word_no_item, take_all, word_is_item, word_or_not}
 use Rattle.ht_entries.proofs.ParsedLaws.{not_none}
 use Rattle.ht_entries.proofs.CubesTextLaws.{bit_plain, bits_are_items, machine_plain, machines_are_items, no_bit_no_rail, no_machine_no_rail, no_number_no_rail, number_plain, numbers_are_items, rail_is_next, rail_of, rails_are_items, signed_are_items, signed_of, signed_plain}
 use Rattle.ht_entries.proofs.CubeLineLaws.{cube_has_text, no_step, no_step_word, rails_of_cube, step_has_text, step_is_read}

@@ -91,5 +91,6 @@ steps_same a b h k e =
     (inr (hints_delimit b.hints)) (by_is_no_signed a.hints) (by_is_no_signed b.hints)
     (append_cancel_left (codes "step") (flat_map (spaced signed_word) a.literals ++ hints_text a.hints)
     (flat_map (spaced signed_word) b.literals ++ hints_text b.hints) e) in
-    steps_alike a b same.items (items_after_same (spaced decimal) IsNumber numbers_are_items (codes " by") a.hints b.hints
-    h.hints.each k.hints.each same.rests)
+    steps_alike a b same.items
+    (items_after_same (spaced decimal) IsNumber numbers_are_items (codes " by") a.hints b.hints h.hints.each
+    k.hints.each same.rests)

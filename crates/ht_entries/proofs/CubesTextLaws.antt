@@ -15,8 +15,8 @@ use Rattle.ht_cubes.specs.declared.signed_var.SignedVar.{SignedVar}
 use Rattle.ht_entries.specs.LineWords.{max_number, IsNumber}
 use Rattle.ht_entries.specs.ItemTexts.{spaced, AreItems, HasNoItem, IsDelimited, IsNextItem, SameItem}
 use Rattle.ht_entries.specs.ByCubes.{bit_word, machine_word, rail_text, sign_text, signed_word, hints_text, IsAnyBit, IsRailText, IsSignedText}
-use Rattle.ht_entries.proofs.SpaceLaws.{number_has_no_space}
-use Rattle.ht_entries.proofs.ItemLaws.{IsNoSpace, item_delimits, words_are_items}
+use Rattle.ht_entries.proofs.SpaceLaws.{IsNoSpace, number_has_no_space}
+use Rattle.ht_entries.proofs.ItemLaws.{item_delimits, words_are_items}
 
 abbrev byte : List ℕ → ℕ → ℕ
 byte text i = get_or text i 0
@@ -140,20 +140,17 @@ module _ (word_of : Bool → List ℕ) where
 pub machine_plain : (faulty : Bool) → IsAnyBit faulty → All IsNoSpace (machine_word faulty)
 machine_plain = two_plain machine_word refl refl
 
-machines_differ : machine_word false ≡ machine_word true → ⊥
-machines_differ e = omega (arith, ap (λ t. byte t 0) e)
-
 pub machines_are_items : AreItems (spaced machine_word) IsAnyBit
-machines_are_items = words_are_items machine_word IsAnyBit machine_plain (two_same machine_word machines_differ)
+machines_are_items =
+    words_are_items machine_word IsAnyBit machine_plain
+    (two_same machine_word (λ e. omega (arith, ap (λ t. byte t 0) e)))
 
 pub bit_plain : (bit : Bool) → IsAnyBit bit → All IsNoSpace (bit_word bit)
 bit_plain = two_plain bit_word refl refl
 
-bits_differ : bit_word false ≡ bit_word true → ⊥
-bits_differ e = omega (arith, ap (λ t. byte t 0) e)
-
 pub bits_are_items : AreItems (spaced bit_word) IsAnyBit
-bits_are_items = words_are_items bit_word IsAnyBit bit_plain (two_same bit_word bits_differ)
+bits_are_items =
+    words_are_items bit_word IsAnyBit bit_plain (two_same bit_word (λ e. omega (arith, ap (λ t. byte t 0) e)))
 
 -- ---- rails
 

@@ -12,10 +12,7 @@ use Rattle.std.proofs.lemmas.List.Concat.{flat_map-cons}
 use Rattle.std.proofs.lemmas.Grind.{flat_map-append}
 use Rattle.std.proofs.lemmas.List.Elements.{All-nil, All-cons, All-from_get_or, All-head, All-push, All-tail, All-take}
 use Rattle.ht_entries.specs.ItemTexts.{spaced, AreItems, AreSome, AreTaken, HasNoItem, IsDelimited, IsNextItem, IsNextWord, SameItem}
-use Rattle.ht_entries.proofs.SpaceLaws.{SameParts, first_space, has_no_space}
-
-abbrev pub IsNoSpace : ℕ → Type 0
-IsNoSpace byte = byte ≢ 32
+use Rattle.ht_entries.proofs.SpaceLaws.{IsNoSpace, SameParts, first_space, has_no_space}
 
 abbrev first_of : List ℕ → ℕ
 first_of [] = 0

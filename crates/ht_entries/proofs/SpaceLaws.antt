@@ -18,7 +18,7 @@ use Rattle.ht_entries.specs.ParsedLines.{IsSplitAt}
 
 -- ---- the first space
 
-abbrev IsNoSpace : ℕ → Type 0
+abbrev pub IsNoSpace : ℕ → Type 0
 IsNoSpace byte = byte ≢ 32
 
 abbrev is_space : ℕ → Bool

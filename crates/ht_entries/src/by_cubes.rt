@@ -6,6 +6,7 @@ ghost use Rattle.ht_entries.specs.ParsedLines.{IsParsed};
 ghost use Rattle.ht_entries.specs.ProofLineLengths.{IsShortProofLine};
 ghost use Rattle.ht_entries.specs.ByCubes as by_cubes;
 
+use crate::found::Found;
 use crate::limits::MAX_PROOF_LINE_BYTES;
 use crate::line_items::{items_after, push_items, take_items};
 use crate::parse_words::{after_word, number_between};
@@ -38,7 +39,7 @@ pub struct ByCubesPart {
 // ---- its lines read
 
 // The line of this form whose text these bytes are, without the LF, or `None` where they are the text of none.
-pub fn parse_by_cubes(alloc: Global, line: &[u8]) -> Result<Option<ByCubesLine>, AllocError>
+pub fn parse_by_cubes(alloc: Global, line: &[u8]) -> Found<ByCubesLine>
     ensures { IfOk result (λ parsed.
         IsParsed by_cubes.by_cubes_text by_cubes.IsByCubesLine line.now parsed) }
 {
@@ -58,7 +59,7 @@ pub fn parse_by_cubes(alloc: Global, line: &[u8]) -> Result<Option<ByCubesLine>,
 }
 
 // The line of a cube.
-fn parse_cube(alloc: Global, line: &[u8]) -> Result<Option<Cube>, AllocError>
+fn parse_cube(alloc: Global, line: &[u8]) -> Found<Cube>
     requires { IsShortProofLine line.now }
     ensures { IfOk result
         (λ parsed. IsParsed by_cubes.cube_text by_cubes.IsCubeText line.now parsed) }
@@ -67,7 +68,7 @@ fn parse_cube(alloc: Global, line: &[u8]) -> Result<Option<Cube>, AllocError>
 }
 
 // The line of a step.
-fn parse_step(alloc: Global, line: &[u8]) -> Result<Option<ClauseStep>, AllocError>
+fn parse_step(alloc: Global, line: &[u8]) -> Found<ClauseStep>
     requires { IsShortProofLine line.now }
     ensures { IfOk result
         (λ parsed. IsParsed by_cubes.step_text by_cubes.IsStepText line.now parsed) }
@@ -110,7 +111,7 @@ impl ByCubesPart {
 }
 
 // The part with one line more, or none where the line doesn't belong to it there.
-pub fn grow_by_cubes(part: ByCubesPart, line: &ProofLine) -> Result<Option<ByCubesPart>, AllocError>
+pub fn grow_by_cubes(part: ByCubesPart, line: &ProofLine) -> Found<ByCubesPart>
     ensures { IfOk result (λ grown. grown ≡ by_cubes.grow_by_cubes part line.now) }
 {
     match line {
@@ -121,7 +122,7 @@ pub fn grow_by_cubes(part: ByCubesPart, line: &ProofLine) -> Result<Option<ByCub
 }
 
 // A cube more, before any step.
-fn add_cube(part: ByCubesPart, cube: &Cube) -> Result<Option<ByCubesPart>, AllocError>
+fn add_cube(part: ByCubesPart, cube: &Cube) -> Found<ByCubesPart>
     ensures { IfOk result
         (λ grown. grown ≡ by_cubes.grow_by_cubes part (by_cubes.never_line cube.now)) }
 {
@@ -141,7 +142,7 @@ fn with_cube(cubes: Items<Cube>, cube: &Cube) -> Result<Items<Cube>, AllocError>
 }
 
 // A step more, after the cubes.
-fn add_step(part: ByCubesPart, step: &ClauseStep) -> Result<Option<ByCubesPart>, AllocError>
+fn add_step(part: ByCubesPart, step: &ClauseStep) -> Found<ByCubesPart>
     ensures { IfOk result
         (λ grown. grown ≡ by_cubes.grow_by_cubes part (by_cubes.step_line step.now)) }
 {

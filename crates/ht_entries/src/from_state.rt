@@ -12,6 +12,7 @@ ghost use Rattle.ht_entries.specs.ParsedLines.{IsParsed};
 ghost use Rattle.ht_entries.specs.PartWords.{where_true, is_above};
 ghost use Rattle.ht_entries.specs.FromState as from_state;
 
+use crate::found::Found;
 use crate::parse_words::{after_word, number_then};
 use crate::proof_line::ProofLine;
 use crate::push_item::with_item;
@@ -57,7 +58,7 @@ pub struct FromStatePart {
 // ---- its lines read
 
 // The line of this form whose text these bytes are, without the LF, or `None` where they are the text of none.
-pub fn parse_from_state(alloc: Global, line: &[u8]) -> Result<Option<FromStateLine>, AllocError>
+pub fn parse_from_state(alloc: Global, line: &[u8]) -> Found<FromStateLine>
     ensures { IfOk result (λ parsed.
         IsParsed from_state.from_state_text from_state.IsFromStateLine line.now parsed) }
 {
@@ -125,7 +126,7 @@ fn parse_second(first: Literal, text: &[u8]) -> Option<Literal>
 }
 
 // The line that begins the entry.
-fn parse_first(alloc: Global, line: &[u8]) -> Result<Option<FromStateLine>, AllocError>
+fn parse_first(alloc: Global, line: &[u8]) -> Found<FromStateLine>
     ensures some { IfOk result (λ parsed. IfSome parsed (λ l.
         from_state.IsFromStateLineText line.now l)) }
     ensures none { IfOk result (λ parsed. IfNone parsed (from_state.IsNoFirstLine line.now)) }
@@ -153,7 +154,7 @@ fn number_and_bits(line: &[u8]) -> Option<(u32, &[u8])>
 }
 
 // The state, one character for each bit.
-fn parse_state(alloc: Global, text: &[u8]) -> Result<Option<Items<bool>>, AllocError>
+fn parse_state(alloc: Global, text: &[u8]) -> Found<Items<bool>>
     ensures { IfOk result (λ parsed. IsParsed vector_text from_state.IsStateText text.now parsed) }
 {
     if text.is_empty() || text.len() > MAX_BITS {
@@ -194,11 +195,7 @@ impl FromStatePart {
 }
 
 // The part with one line more, or none where the line doesn't belong to it there.
-pub fn grow_from_state(
-    alloc: Global,
-    part: FromStatePart,
-    line: &ProofLine,
-) -> Result<Option<FromStatePart>, AllocError>
+pub fn grow_from_state(alloc: Global, part: FromStatePart, line: &ProofLine) -> Found<FromStatePart>
     ensures { IfOk result (λ grown. grown ≡ from_state.grow_from_state part line.now) }
 {
     let mut part = part;
@@ -309,10 +306,7 @@ fn add_token(alloc: Global, part: &mut FromStatePart, token: Token) -> Result<bo
 }
 
 // The clauses, with a token more in the walk of the last.
-fn with_clause_token(
-    clauses: Items<Clause>,
-    token: Token,
-) -> Result<Option<Items<Clause>>, AllocError>
+fn with_clause_token(clauses: Items<Clause>, token: Token) -> Found<Items<Clause>>
     ensures { IfOk result (λ more. more ≡ from_state.add_clause_token clauses token) }
 {
     let mut clauses = clauses.into_vec();

@@ -17,6 +17,7 @@ mod by_sets;
 mod entry_part;
 mod entry_text;
 mod format;
+mod found;
 mod from_state;
 mod grow;
 mod limits;

@@ -6,6 +6,7 @@ ghost use Rattle.ht_entries.specs.ParsedLines.{IsParsed};
 ghost use Rattle.ht_entries.specs.ItemTexts.{spaced, AreItems, AreSome, AreTaken, HasNoItem, HasPlainWords, IsNextItem, IsNextWord};
 ghost use Rattle.ht_entries.specs.ByCubes.{bit_word, machine_word, rail_text, signed_word, IsAnyBit, IsRailText, IsSignedText};
 
+use crate::found::Found;
 use crate::parse_words::{after_word, find_space, is_word, parse_number};
 use ht_cubes::{Rail, SignedVar};
 use ht_items::Items;
@@ -232,11 +233,7 @@ pub fn take_items<T: Item>(alloc: Global, text: &[u8]) -> Result<(Items<T>, &[u8
 }
 
 // The items that stand after a word, to the end of the text: one or more.
-pub fn items_after<T: Item>(
-    alloc: Global,
-    text: &[u8],
-    word: &[u8],
-) -> Result<Option<Items<T>>, AllocError>
+pub fn items_after<T: Item>(alloc: Global, text: &[u8], word: &[u8]) -> Found<Items<T>>
     requires { AreItems T.text_of T.HasText }
     ensures { IfOk result (λ parsed. IsParsed (λ items. word.now ++ flat_map T.text_of items)
         (AreSome T.HasText) text.now parsed) }
