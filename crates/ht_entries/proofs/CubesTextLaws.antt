@@ -127,8 +127,8 @@ by_is_no_signed hints x rest h d e =
 module _ (word_of : Bool → List ℕ) where
   two_plain : list_all is_other (word_of false) ≡ true → list_all is_other (word_of true) ≡ true → (bit : Bool)
       → IsAnyBit bit → All IsNoSpace (word_of bit)
-  two_plain no yes false h = by_bytes (word_of false) no
-  two_plain no yes true h = by_bytes (word_of true) yes
+  two_plain off on false h = by_bytes (word_of false) off
+  two_plain off on true h = by_bytes (word_of true) on
 
   two_same : (word_of false ≡ word_of true → ⊥) → (x y : Bool) → IsAnyBit x → IsAnyBit y → word_of x ≡ word_of y
       → x ≡ y
