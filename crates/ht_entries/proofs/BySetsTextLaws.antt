@@ -80,14 +80,6 @@ no_row_set line after rest n is counts split none row h e =
     (front_same n (row.dff + 1) rest (pairs_text row.set) counts.1 (omega (arith, h.dff)) split.space
     (begins_with_space row.set h.set.some) (sym split.parts ∙ row_rest line after row is e)).rests
 
-pub row_is_read : (line after rest : List ℕ) (n : ℕ) (set : List Pair) → line ≡ codes "pairs " ++ after → IsNumber n
-    → IsSplitAt after (decimal n) rest → rest ≡ pairs_text set → line ≡ row_text (row_of (n - 1) set)
-row_is_read line after rest n set is counts split set_is =
-    let before : n ≡ n - 1 + 1 = omega (arith, counts.0) in
-    is ∙ ap (λ t. codes "pairs " ++ t)
-    (split.parts ∙ ap (λ k. decimal k ++ rest) before ∙ ap (λ t. decimal (n - 1 + 1) ++ t) set_is)
-    ∙ sym (row_text_is (row_of (n - 1) set))
-
 -- ---- whether bytes are such a line
 
 -- the value of a character, and the pairs of a text

@@ -11,11 +11,13 @@ use Rattle.ht_cubes.specs.declared.signed_var.SignedVar.{SignedVar}
 use Rattle.ht_cubes.specs.declared.clause_step.ClauseStep.{ClauseStep}
 use Rattle.ht_entries.specs.declared.limits.TheConstants.{MAX_PROOF_LINE_BYTES}
 use Rattle.ht_entries.specs.LineWords.{max_number, IsNumber}
-use Rattle.ht_entries.specs.ItemTexts.{spaced, HasNoItem, IsNextItem}
+use Rattle.ht_entries.specs.ItemTexts.{spaced, AreItems, AreSome, HasNoItem, IsNextItem}
 use Rattle.ht_entries.specs.ByCubes.{bit_word, machine_word, rail_text, signed_word, cube_text, hints_text, step_text, AreHints, IsAnyBit, IsCubeText, IsRailText, IsSignedText, IsStepText}
-use Rattle.ht_entries.proofs.ItemLaws.{IsNoSpace, SomeItem, TakesAll, no_space_no_item, no_word_no_item, take_all, word_is_item, word_or_not}
+use Rattle.ht_entries.proofs.SpaceLaws.{IsNoSpace}
+use Rattle.ht_entries.proofs.ItemLaws.{SomeItem, TakesAll, items_after_are_read, no_items_after, no_space_no_item, no_word_no_item, take_all, word_is_item, word_or_not}
+use Rattle.ht_entries.proofs.ParsedLaws.{not_none}
 use Rattle.ht_entries.proofs.CubesTextLaws.{bit_plain, bits_are_items, machine_plain, machines_are_items, no_bit_no_rail, no_machine_no_rail, no_number_no_rail, number_plain, numbers_are_items, rail_is_next, rail_of, rails_are_items, signed_are_items, signed_of, signed_plain}
-use Rattle.ht_entries.proofs.CubeLineLaws.{are_hints, cube_has_text, cube_is_read, hints_are_read, no_cube, no_cube_word, no_hints, no_hints_word, no_step, no_step_word, step_has_text, step_is_read}
+use Rattle.ht_entries.proofs.CubeLineLaws.{cube_has_text, no_step, no_step_word, rails_of_cube, step_has_text, step_is_read}
 
 -- ---- words
 
@@ -140,51 +142,50 @@ empty_or_not : {A : Type 0} (xs : List A) → (xs ≡ []) ⊎ (xs ≢ [])
 empty_or_not [] = inl refl
 empty_or_not (x ∷ xs) = inr (λ e. omega (arith, ap length e))
 
-cube_by : (bytes text : List ℕ) → bytes ≡ codes "never" ++ text → length bytes ≤ MAX_PROOF_LINE_BYTES
-    → TakesAll rail_text IsRailText text
-    → ((cube : List Rail) × (IsCubeText cube × (bytes ≡ cube_text cube)))
-    ⊎ ((cube : List Rail) → IsCubeText cube → bytes ≢ cube_text cube)
-cube_by bytes text is short all = elim (empty_or_not all.xs) [
-  | inl none ↦ inr (no_cube bytes text all.rest all.xs is all.taken all.none (inl none))
-  | inr some ↦ elim (empty_or_not all.rest) [
-    | inr more ↦ inr (no_cube bytes text all.rest all.xs is all.taken all.none (inr more))
-    | inl end ↦
-        let read = cube_is_read bytes text all.rest all.xs is all.taken end in
-        inl (all.xs, (cube_has_text bytes all.xs short read all.taken.each some, read))
+-- items after a word, to the end of a text
+abbrev AreAfter : {A : Type 0} → (A → List ℕ) → (A → Type 0) → List ℕ → List ℕ → Type 0
+AreAfter text_of HasText word bytes =
+    ((xs : _) × (AreSome HasText xs × (bytes ≡ word ++ flat_map text_of xs)))
+    ⊎ ((xs : _) → AreSome HasText xs → bytes ≢ word ++ flat_map text_of xs)
+
+module _ {A : Type 0} (text_of : A → List ℕ) (HasText : A → Type 0) (are : AreItems text_of HasText) where
+  items_by : (word bytes text : List ℕ) → bytes ≡ word ++ text → TakesAll text_of HasText text
+      → AreAfter text_of HasText word bytes
+  items_by word bytes text is all = elim (empty_or_not all.xs) [
+    | inl none ↦
+        inr (no_items_after text_of HasText are word bytes text all.rest all.xs is all.taken all.none (inl none))
+    | inr some ↦ elim (empty_or_not all.rest) [
+      | inr more ↦
+          inr (no_items_after text_of HasText are word bytes text all.rest all.xs is all.taken all.none (inr more))
+      | inl end ↦ inl (
+        all.xs,
+        (
+          record { some = not_none all.xs some; each = all.taken.each },
+          items_after_are_read text_of HasText are word bytes text all.rest all.xs is all.taken end,
+        ),
+      )
+    ]
   ]
-]
+
+  items_or_not : ((text : List ℕ) → SomeItem text_of HasText text ⊎ HasNoItem text_of HasText text)
+      → (word bytes : List ℕ) → AreAfter text_of HasText word bytes
+  items_or_not decide word bytes = elim (after_or_not word bytes) [
+    | inr none ↦ inr (λ xs h e. none (flat_map text_of xs) e)
+    | inl after ↦ items_by word bytes after.0 after.1 (take_all text_of HasText are decide after.0)
+  ]
 
 pub cube_or_not : (bytes : List ℕ) → ((cube : List Rail) × (IsCubeText cube × (bytes ≡ cube_text cube)))
     ⊎ ((cube : List Rail) → IsCubeText cube → bytes ≢ cube_text cube)
 cube_or_not bytes = elim (cases_lt MAX_PROOF_LINE_BYTES (length bytes)) [
   | inl long ↦ inr (λ cube h e. omega (arith, long, h.short, ap length e))
-  | inr short ↦ elim (after_or_not (codes "never") bytes) [
-    | inr none ↦ inr (no_cube_word bytes none)
-    | inl after ↦ cube_by bytes after.0 after.1 short (take_all rail_text IsRailText rails_are_items rail_or_not after.0)
+  | inr short ↦ elim (items_or_not rail_text IsRailText rails_are_items rail_or_not (codes "never") bytes) [
+    | inr none ↦ inr (λ cube h. none cube (rails_of_cube cube h))
+    | inl found ↦ inl (found.0, (cube_has_text bytes found.0 short found.1.1 found.1.0, found.1.1))
   ]
 ]
 
-hints_by : (text numbers : List ℕ) → text ≡ codes " by" ++ numbers
-    → TakesAll (spaced decimal) IsNumber numbers
-    → ((hints : List ℕ) × (AreHints hints × (text ≡ hints_text hints)))
-    ⊎ ((hints : List ℕ) → AreHints hints → text ≢ hints_text hints)
-hints_by text numbers is all = elim (empty_or_not all.xs) [
-  | inl none ↦ inr (no_hints text numbers all.rest all.xs is all.taken all.none (inl none))
-  | inr some ↦ elim (empty_or_not all.rest) [
-    | inr more ↦ inr (no_hints text numbers all.rest all.xs is all.taken all.none (inr more))
-    | inl end ↦ inl (
-      all.xs,
-      (are_hints all.xs all.taken.each some, hints_are_read text numbers all.rest all.xs is all.taken end),
-    )
-  ]
-]
-
-hints_or_not : (text : List ℕ) → ((hints : List ℕ) × (AreHints hints × (text ≡ hints_text hints)))
-    ⊎ ((hints : List ℕ) → AreHints hints → text ≢ hints_text hints)
-hints_or_not text = elim (after_or_not (codes " by") text) [
-  | inr none ↦ inr (no_hints_word text none)
-  | inl after ↦ hints_by text after.0 after.1 (take_all (spaced decimal) IsNumber numbers_are_items number_item_or_not after.0)
-]
+hints_or_not : (text : List ℕ) → AreAfter (spaced decimal) IsNumber (codes " by") text
+hints_or_not = items_or_not (spaced decimal) IsNumber numbers_are_items number_item_or_not (codes " by")
 
 abbrev step_of : List SignedVar → List ℕ → ClauseStep
 step_of literals hints = record { literals = literals; hints = hints }

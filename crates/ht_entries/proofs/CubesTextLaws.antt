@@ -13,10 +13,10 @@ use Rattle.ht_texts.specs.Tests.{bit_code}
 use Rattle.ht_cubes.specs.declared.rail.Rail.{Rail}
 use Rattle.ht_cubes.specs.declared.signed_var.SignedVar.{SignedVar}
 use Rattle.ht_entries.specs.LineWords.{max_number, IsNumber}
-use Rattle.ht_entries.specs.ItemTexts.{spaced, HasNoItem, IsDelimited, IsNextItem}
+use Rattle.ht_entries.specs.ItemTexts.{spaced, AreItems, HasNoItem, IsDelimited, IsNextItem, SameItem}
 use Rattle.ht_entries.specs.ByCubes.{bit_word, machine_word, rail_text, sign_text, signed_word, hints_text, IsAnyBit, IsRailText, IsSignedText}
-use Rattle.ht_entries.proofs.SpaceLaws.{number_has_no_space}
-use Rattle.ht_entries.proofs.ItemLaws.{AreItems, IsNoSpace, SameItem, item_delimits, words_are_items}
+use Rattle.ht_entries.proofs.SpaceLaws.{IsNoSpace, number_has_no_space}
+use Rattle.ht_entries.proofs.ItemLaws.{item_delimits, words_are_items}
 
 abbrev byte : List ℕ → ℕ → ℕ
 byte text i = get_or text i 0
@@ -124,37 +124,33 @@ by_is_no_signed hints x rest h d e =
 
 -- ---- machines and bits
 
+module _ (word_of : Bool → List ℕ) where
+  two_plain : list_all is_other (word_of false) ≡ true → list_all is_other (word_of true) ≡ true → (bit : Bool)
+      → IsAnyBit bit → All IsNoSpace (word_of bit)
+  two_plain off on false h = by_bytes (word_of false) off
+  two_plain off on true h = by_bytes (word_of true) on
+
+  two_same : (word_of false ≡ word_of true → ⊥) → (x y : Bool) → IsAnyBit x → IsAnyBit y → word_of x ≡ word_of y
+      → x ≡ y
+  two_same differ false false h k e = refl
+  two_same differ true true h k e = refl
+  two_same differ false true h k e = absurd (differ e)
+  two_same differ true false h k e = absurd (differ (sym e))
+
 pub machine_plain : (faulty : Bool) → IsAnyBit faulty → All IsNoSpace (machine_word faulty)
-machine_plain false h = by_bytes (machine_word false) refl
-machine_plain true h = by_bytes (machine_word true) refl
-
-no_g : ◌≡◌ {A = ℕ} 103 102 → ⊥
-no_g e = omega (arith, e)
-
-pub machines_same : (x y : Bool) → IsAnyBit x → IsAnyBit y → machine_word x ≡ machine_word y → x ≡ y
-machines_same false false h k e = refl
-machines_same true true h k e = refl
-machines_same false true h k e = absurd (no_g (ap (λ t. byte t 0) e))
-machines_same true false h k e = absurd (no_g (sym (ap (λ t. byte t 0) e)))
+machine_plain = two_plain machine_word refl refl
 
 pub machines_are_items : AreItems (spaced machine_word) IsAnyBit
-machines_are_items = words_are_items machine_word IsAnyBit machine_plain machines_same
+machines_are_items =
+    words_are_items machine_word IsAnyBit machine_plain
+    (two_same machine_word (λ e. omega (arith, ap (λ t. byte t 0) e)))
 
 pub bit_plain : (bit : Bool) → IsAnyBit bit → All IsNoSpace (bit_word bit)
-bit_plain false h = by_bytes (bit_word false) refl
-bit_plain true h = by_bytes (bit_word true) refl
-
-no_48 : ◌≡◌ {A = ℕ} 48 49 → ⊥
-no_48 e = omega (arith, e)
-
-pub bits_same : (x y : Bool) → IsAnyBit x → IsAnyBit y → bit_word x ≡ bit_word y → x ≡ y
-bits_same false false h k e = refl
-bits_same true true h k e = refl
-bits_same false true h k e = absurd (no_48 (ap (λ t. byte t 0) e))
-bits_same true false h k e = absurd (no_48 (sym (ap (λ t. byte t 0) e)))
+bit_plain = two_plain bit_word refl refl
 
 pub bits_are_items : AreItems (spaced bit_word) IsAnyBit
-bits_are_items = words_are_items bit_word IsAnyBit bit_plain bits_same
+bits_are_items =
+    words_are_items bit_word IsAnyBit bit_plain (two_same bit_word (λ e. omega (arith, ap (λ t. byte t 0) e)))
 
 -- ---- rails
 

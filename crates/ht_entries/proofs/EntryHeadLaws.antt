@@ -1,8 +1,11 @@
 -- The lines that begin an entry, and the others of a form's own: two with one text are one.
-use Rattle.std.proofs.Common.{append_assoc, arith, ap, sym, ◌∙◌}
+use Rattle.std.proofs.Common.{arith, ap, sym, ◌∙◌}
 use Rattle.std.proofs.lemmas.Fmt.{decimal_injective}
+use Rattle.std.proofs.lemmas.Bool.{ne_eqb}
 use Rattle.std.proofs.lemmas.List.{append_cancel_left}
-use Rattle.std.specs.Prelude.{◌≡◌, ◌≤◌, ℕ, List, [], ◌∷◌, ◌++◌, Bool, true, false, refl, get_or, codes}
+use Rattle.std.proofs.lemmas.List.Elements.{All-head, All-tail}
+use Rattle.std.specs.Prelude.{◌≡◌, ◌≤◌, ℕ, List, [], ◌∷◌, ◌++◌, Bool, true, false, cond, eqb, refl, get_or, codes}
+use Rattle.std.specs.List.{All}
 use Rattle.std.specs.Fmt.{decimal}
 use Rattle.ht_texts.specs.Tests.{bit_code, vector_text}
 use Rattle.ht_entries.specs.declared.proof_line.ProofLine.TheVariants as line
@@ -15,7 +18,7 @@ use Rattle.ht_entries.specs.declared.by_cubes.ByCubesLine.TheVariants as cubes
 use Rattle.ht_entries.specs.FromState.{IsFromStateLine}
 use Rattle.ht_entries.specs.BySets.{IsBySetsLine}
 use Rattle.ht_entries.specs.ByCubes.{IsByCubesLine}
-use Rattle.ht_entries.proofs.SpaceLaws.{SameParts, parts_same, number_has_no_space}
+use Rattle.ht_entries.proofs.SpaceLaws.{IsNoSpace, parts_same, number_has_no_space}
 use Rattle.ht_entries.proofs.FromStateTextLaws.{first_text_same, clauses_same}
 use Rattle.ht_entries.proofs.BySetsTextLaws.{rows_same}
 use Rattle.ht_entries.proofs.CubeLineLaws.{cubes_same, steps_same}
@@ -50,43 +53,27 @@ codes_same (b ∷ v) [] e = absurd (empty_is_not (bit_code b) (vector_text v) (s
 codes_same (b ∷ v) (c ∷ w) e = ap (λ x. x ∷ v) (bits_same b c (ap (λ t. byte t 0) e))
     ∙ ap (λ x. c ∷ x) (codes_same v w (ap rest_of e))
 
+-- what stands after the first space of a text
+abbrev pub after_space : List ℕ → List ℕ
+after_space [] = []
+after_space (x ∷ xs) = cond (eqb x 32) xs (after_space xs)
+
+after_plain : (xs rest : List ℕ) → All IsNoSpace xs → after_space (xs ++ 32 ∷ rest) ≡ rest
+after_plain [] rest plain = refl
+after_plain (x ∷ xs) rest plain =
+    ap (λ b. cond b (xs ++ 32 ∷ rest) (after_space (xs ++ 32 ∷ rest))) (ne_eqb x 32 (All-head IsNoSpace x xs plain))
+    ∙ after_plain xs rest (All-tail IsNoSpace x xs plain)
+
 -- what follows the number of an entry
-entry_rest : (m n : ℕ) (rest more : List ℕ) → m ≤ max_number → n ≤ max_number
-    → codes "entry " ++ (decimal m ++ 32 ∷ rest) ≡ codes "entry " ++ (decimal n ++ 32 ∷ more)
-    → SameParts (decimal m) (decimal n) rest more
-entry_rest m n rest more h k e =
-    parts_same (decimal m) (decimal n) rest more (number_has_no_space m h) (number_has_no_space n k)
-    (append_cancel_left (codes "entry ") (decimal m ++ 32 ∷ rest) (decimal n ++ 32 ∷ more) e)
+pub after_number : (n : ℕ) (rest : List ℕ) → n ≤ max_number → after_space (decimal n ++ 32 ∷ rest) ≡ rest
+after_number n rest h = after_plain (decimal n) rest (number_has_no_space n h)
 
 pub entry_number : (m n : ℕ) (rest more : List ℕ) → m ≤ max_number → n ≤ max_number
     → codes "entry " ++ (decimal m ++ 32 ∷ rest) ≡ codes "entry " ++ (decimal n ++ 32 ∷ more) → m ≡ n
-entry_number m n rest more h k e = numbers_same m n h k (entry_rest m n rest more h k e).fronts
-
-pub not_aborted : (m n : ℕ) → m ≤ max_number → n ≤ max_number
-    → line_text (line.Untestable m) ≡ line_text (line.Aborted n) → ⊥
-not_aborted m n h k e =
-    let rests = (entry_rest m n (codes "untestable") (codes "aborted") h k e).rests in
-    omega (arith, ap (λ t. byte t 0) rests)
-
--- the first line of a refutation from a state, by what follows its number
-from_state_rest : (m n : ℕ) (rest : List ℕ) (state : List Bool) → m ≤ max_number → n ≤ max_number
-    → codes "entry " ++ (decimal m ++ 32 ∷ rest) ≡ line_text (line.FromState (form.Begins n state))
-    → rest ≡ codes "untestable from " ++ vector_text state
-from_state_rest m n rest state h k e =
-    (entry_rest m n rest (codes "untestable from " ++ vector_text state) h k
-    (e ∙ ap (λ x. codes "entry " ++ x) (append_assoc (decimal n) (codes " untestable from ") (vector_text state)))).rests
-
-pub untestable_not_from : (m : ℕ) (x : FromStateLine) → m ≤ max_number → IsFromStateLine x
-    → line_text (line.Untestable m) ≡ line_text (line.FromState x) → ⊥
-untestable_not_from m (form.Begins n state) h k e =
-    omega (arith, ap (λ t. byte t 10) (from_state_rest m n (codes "untestable") state h (k.0.1) e))
-untestable_not_from m (form.Clause first second) h k e = omega (arith, ap (λ t. byte t 0) e)
-
-pub aborted_not_from : (m : ℕ) (x : FromStateLine) → m ≤ max_number → IsFromStateLine x
-    → line_text (line.Aborted m) ≡ line_text (line.FromState x) → ⊥
-aborted_not_from m (form.Begins n state) h k e =
-    omega (arith, ap (λ t. byte t 0) (from_state_rest m n (codes "aborted") state h (k.0.1) e))
-aborted_not_from m (form.Clause first second) h k e = omega (arith, ap (λ t. byte t 0) e)
+entry_number m n rest more h k e =
+    numbers_same m n h k
+    (parts_same (decimal m) (decimal n) rest more (number_has_no_space m h) (number_has_no_space n k)
+    (append_cancel_left (codes "entry ") (decimal m ++ 32 ∷ rest) (decimal n ++ 32 ∷ more) e)).fronts
 
 pub from_state_same : (x y : FromStateLine) → IsFromStateLine x → IsFromStateLine y
     → line_text (line.FromState x) ≡ line_text (line.FromState y) → x ≡ y
@@ -97,27 +84,6 @@ from_state_same (form.Begins m s) (form.Clause first second) h k e = absurd (ome
 from_state_same (form.Clause first second) (form.Begins m s) h k e = absurd (omega (arith, ap (λ t. byte t 0) e))
 from_state_same (form.Clause a b) (form.Clause first second) h k e = clauses_same a first b second h k e
 
--- the line that begins an entry by sets, against the others
-pub untestable_not_sets : (m : ℕ) (x : BySetsLine) → m ≤ max_number → IsBySetsLine x
-    → line_text (line.Untestable m) ≡ line_text (line.BySets x) → ⊥
-untestable_not_sets m (sets.Begins n) h k e =
-    omega (arith, ap (λ t. byte t 2) (entry_rest m n (codes "untestable") (codes "undetectable by sets") h (k.1) e).rests)
-untestable_not_sets m (sets.Pairs row) h k e = omega (arith, ap (λ t. byte t 0) e)
-
-pub aborted_not_sets : (m : ℕ) (x : BySetsLine) → m ≤ max_number → IsBySetsLine x
-    → line_text (line.Aborted m) ≡ line_text (line.BySets x) → ⊥
-aborted_not_sets m (sets.Begins n) h k e =
-    omega (arith, ap (λ t. byte t 0) (entry_rest m n (codes "aborted") (codes "undetectable by sets") h (k.1) e).rests)
-aborted_not_sets m (sets.Pairs row) h k e = omega (arith, ap (λ t. byte t 0) e)
-
-pub from_state_not_sets : (x : FromStateLine) (y : BySetsLine) → IsFromStateLine x → IsBySetsLine y
-    → line_text (line.FromState x) ≡ line_text (line.BySets y) → ⊥
-from_state_not_sets (form.Begins n state) (sets.Begins m) h k e =
-    omega (arith, ap (λ t. byte t 2) (from_state_rest m n (codes "undetectable by sets") state (k.1) (h.0.1) (sym e)))
-from_state_not_sets (form.Begins n state) (sets.Pairs row) h k e = omega (arith, ap (λ t. byte t 0) e)
-from_state_not_sets (form.Clause first second) (sets.Begins m) h k e = omega (arith, ap (λ t. byte t 0) e)
-from_state_not_sets (form.Clause first second) (sets.Pairs row) h k e = omega (arith, ap (λ t. byte t 0) e)
-
 pub by_sets_same : (x y : BySetsLine) → IsBySetsLine x → IsBySetsLine y
     → line_text (line.BySets x) ≡ line_text (line.BySets y) → x ≡ y
 by_sets_same (sets.Begins m) (sets.Begins n) h k e =
@@ -125,45 +91,6 @@ by_sets_same (sets.Begins m) (sets.Begins n) h k e =
 by_sets_same (sets.Begins m) (sets.Pairs row) h k e = absurd (omega (arith, ap (λ t. byte t 0) e))
 by_sets_same (sets.Pairs row) (sets.Begins n) h k e = absurd (omega (arith, ap (λ t. byte t 0) e))
 by_sets_same (sets.Pairs row) (sets.Pairs other) h k e = ap sets.Pairs (rows_same row other h k e)
-
--- the lines of an entry by cubes, against the others
-pub untestable_not_cubes : (m : ℕ) (x : ByCubesLine) → m ≤ max_number → IsByCubesLine x
-    → line_text (line.Untestable m) ≡ line_text (line.ByCubes x) → ⊥
-untestable_not_cubes m (cubes.Begins n) h k e =
-    omega (arith, ap (λ t. byte t 2) (entry_rest m n (codes "untestable") (codes "undetectable by cubes") h (k.1) e).rests)
-untestable_not_cubes m (cubes.Never cube) h k e = omega (arith, ap (λ t. byte t 0) e)
-untestable_not_cubes m (cubes.Step step) h k e = omega (arith, ap (λ t. byte t 0) e)
-
-pub aborted_not_cubes : (m : ℕ) (x : ByCubesLine) → m ≤ max_number → IsByCubesLine x
-    → line_text (line.Aborted m) ≡ line_text (line.ByCubes x) → ⊥
-aborted_not_cubes m (cubes.Begins n) h k e =
-    omega (arith, ap (λ t. byte t 0) (entry_rest m n (codes "aborted") (codes "undetectable by cubes") h (k.1) e).rests)
-aborted_not_cubes m (cubes.Never cube) h k e = omega (arith, ap (λ t. byte t 0) e)
-aborted_not_cubes m (cubes.Step step) h k e = omega (arith, ap (λ t. byte t 0) e)
-
-pub from_state_not_cubes : (x : FromStateLine) (y : ByCubesLine) → IsFromStateLine x → IsByCubesLine y
-    → line_text (line.FromState x) ≡ line_text (line.ByCubes y) → ⊥
-from_state_not_cubes (form.Begins n state) (cubes.Begins m) h k e =
-    omega (arith, ap (λ t. byte t 2) (from_state_rest m n (codes "undetectable by cubes") state (k.1) (h.0.1) (sym e)))
-from_state_not_cubes (form.Begins n state) (cubes.Never cube) h k e = omega (arith, ap (λ t. byte t 0) e)
-from_state_not_cubes (form.Begins n state) (cubes.Step step) h k e = omega (arith, ap (λ t. byte t 0) e)
-from_state_not_cubes (form.Clause first second) (cubes.Begins m) h k e = omega (arith, ap (λ t. byte t 0) e)
-from_state_not_cubes (form.Clause first second) (cubes.Never cube) h k e = omega (arith, ap (λ t. byte t 0) e)
-from_state_not_cubes (form.Clause first second) (cubes.Step step) h k e = omega (arith, ap (λ t. byte t 0) e)
-
-pub sets_not_cubes : (x : BySetsLine) (y : ByCubesLine) → IsBySetsLine x → IsByCubesLine y
-    → line_text (line.BySets x) ≡ line_text (line.ByCubes y) → ⊥
-sets_not_cubes (sets.Begins n) (cubes.Begins m) h k e =
-    omega (
-      arith,
-      ap (λ t. byte t 16)
-          (entry_rest n m (codes "undetectable by sets") (codes "undetectable by cubes") (h.1) (k.1) e).rests,
-    )
-sets_not_cubes (sets.Begins n) (cubes.Never cube) h k e = omega (arith, ap (λ t. byte t 0) e)
-sets_not_cubes (sets.Begins n) (cubes.Step step) h k e = omega (arith, ap (λ t. byte t 0) e)
-sets_not_cubes (sets.Pairs row) (cubes.Begins m) h k e = omega (arith, ap (λ t. byte t 0) e)
-sets_not_cubes (sets.Pairs row) (cubes.Never cube) h k e = omega (arith, ap (λ t. byte t 0) e)
-sets_not_cubes (sets.Pairs row) (cubes.Step step) h k e = omega (arith, ap (λ t. byte t 0) e)
 
 pub by_cubes_same : (x y : ByCubesLine) → IsByCubesLine x → IsByCubesLine y
     → line_text (line.ByCubes x) ≡ line_text (line.ByCubes y) → x ≡ y

@@ -1,8 +1,7 @@
 -- The lines of a refutation from a state, told apart by their texts.
-use Rattle.std.proofs.Common.{◌≡◌, ◌≢◌, ◌==◌, ◌⊎◌, inl, inr, ℕ, ◌+◌, ◌≤◌, Bool, true, false, List, [], ◌∷◌, ◌++◌, Option, Some, None, length, append_assoc, refl, sym, ap, ◌∙◌, subst, arith}
+use Rattle.std.proofs.Common.{◌≡◌, ◌≢◌, ◌⊎◌, inl, inr, ℕ, ◌+◌, ◌≤◌, Bool, true, false, List, [], ◌∷◌, ◌++◌, Option, Some, None, append_assoc, refl, sym, ap, ◌∙◌, subst, arith}
 use Rattle.std.specs.Prelude.{codes}
 use Rattle.std.specs.Fmt.{decimal}
-use Rattle.std.proofs.lemmas.Bool.{true≢false}
 use Rattle.std.proofs.lemmas.List.{append-nil, append_cancel_left}
 use Rattle.ht_texts.specs.Tests.{bit_code, vector_text}
 use Rattle.ht_tree.specs.declared.clause.Literal.{Literal}
@@ -21,11 +20,6 @@ first_of (x ∷ xs) = x
 
 no_text : (x : ℕ) (xs : List ℕ) → [] ≡ x ∷ xs → ⊥
 no_text x xs e = cc
-
--- what isn't empty by its length
-pub not_empty : (xs : List ℕ) → false ≡ (length xs == 0) → xs ≢ []
-not_empty [] e f = true≢false (sym e)
-not_empty (x ∷ xs) e f = no_text x xs (sym f)
 
 no_48 : ◌≡◌ {A = ℕ} 48 49 → ⊥
 no_48 e = omega (arith, e)

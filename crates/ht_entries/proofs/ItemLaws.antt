@@ -4,18 +4,15 @@ use Rattle.std.specs.Prelude.{flat_map}
 use Rattle.std.specs.List.{All, position}
 use Rattle.std.specs.Option.{unwrap_or}
 use Rattle.std.proofs.lemmas.Bool.{cases_eq, eqb-true}
-use Rattle.std.proofs.lemmas.List.{append-nil, length-append, take-append-drop}
+use Rattle.std.proofs.lemmas.List.{append-nil, append_cancel_left, length-append, take-append-drop}
 use Rattle.std.proofs.lemmas.List.Quantifiers.{position-Some}
 use Rattle.std.proofs.Math.Seq.{take-length}
 use Rattle.std.proofs.Math.ListN.{drop_of_length-le}
 use Rattle.std.proofs.lemmas.List.Concat.{flat_map-cons}
 use Rattle.std.proofs.lemmas.Grind.{flat_map-append}
 use Rattle.std.proofs.lemmas.List.Elements.{All-nil, All-cons, All-from_get_or, All-head, All-push, All-tail, All-take}
-use Rattle.ht_entries.specs.ItemTexts.{spaced, AreTaken, HasNoItem, IsDelimited, IsNextItem, IsNextWord}
-use Rattle.ht_entries.proofs.SpaceLaws.{SameParts, first_space, has_no_space}
-
-abbrev pub IsNoSpace : ℕ → Type 0
-IsNoSpace byte = byte ≢ 32
+use Rattle.ht_entries.specs.ItemTexts.{spaced, AreItems, AreSome, AreTaken, HasNoItem, IsDelimited, IsNextItem, IsNextWord, SameItem}
+use Rattle.ht_entries.proofs.SpaceLaws.{IsNoSpace, SameParts, first_space, has_no_space}
 
 abbrev first_of : List ℕ → ℕ
 first_of [] = 0
@@ -46,16 +43,6 @@ words_same (x ∷ v) (y ∷ w) rest more h k d e f =
     }
 
 -- ---- items
-
-pub record SameItem {A : Type 0} (x y : A) (rest more : List ℕ) : Type 0 where
-  pub items : x ≡ y
-  pub rests : rest ≡ more
-
--- Items are told apart: each begins with a space, and a text begins with no two.
-pub record AreItems {A : Type 0} (text_of : A → List ℕ) (HasText : A → Type 0) : Type 0 where
-  pub begins : (x : A) → (more : List ℕ) × (text_of x ≡ 32 ∷ more)
-  pub same : (x y : A) (rest more : List ℕ) → HasText x → HasText y → IsDelimited rest → IsDelimited more
-      → text_of x ++ rest ≡ text_of y ++ more → SameItem x y rest more
 
 -- a text begins with some item
 pub record SomeItem {A : Type 0} (text_of : A → List ℕ) (HasText : A → Type 0) (text : List ℕ) : Type 0 where
@@ -152,6 +139,33 @@ module _ {A : Type 0} (text_of : A → List ℕ) (HasText : A → Type 0) (are :
       → HasNoItem text_of HasText rest → All HasText ys → text ≡ flat_map text_of ys → SameItem xs ys rest []
   all_taken text rest xs ys h none each e =
       taken_are text rest [] xs ys h none each (inl refl) none_at_end (e ∙ sym (append-nil (flat_map text_of ys)))
+
+  -- ---- items after a word, to the end of a text
+
+  -- a text that begins with no item after the word, or that goes on after its items, is none of items
+  pub no_items_after : (word line text rest : List ℕ) (xs : List A) → line ≡ word ++ text
+      → AreTaken text_of HasText text xs rest → HasNoItem text_of HasText rest → (xs ≡ []) ⊎ (rest ≢ [])
+      → (other : List A) → AreSome HasText other → line ≢ word ++ flat_map text_of other
+  no_items_after word line text rest xs is taken none wrong other h e =
+      let same = all_taken text rest xs other taken none h.each
+      (append_cancel_left word text (flat_map text_of other) (sym is ∙ e)) in
+      elim wrong [
+        | inl empty ↦ omega (arith, h.some, ap length (sym same.items ∙ empty))
+        | inr more ↦ more same.rests
+      ]
+
+  pub items_after_are_read : (word line text rest : List ℕ) (xs : List A) → line ≡ word ++ text
+      → AreTaken text_of HasText text xs rest → rest ≡ [] → line ≡ word ++ flat_map text_of xs
+  items_after_are_read word line text rest xs is taken end =
+      is ∙ ap (λ t. word ++ t)
+      (taken.parts ∙ ap (λ t. flat_map text_of xs ++ t) end ∙ append-nil (flat_map text_of xs))
+
+  pub items_after_same : (word : List ℕ) (xs ys : List A) → All HasText xs → All HasText ys
+      → word ++ flat_map text_of xs ≡ word ++ flat_map text_of ys → xs ≡ ys
+  items_after_same word xs ys h k e =
+      (lists_same xs ys [] [] h k (inr (inl refl)) (inr (inl refl)) none_at_end none_at_end
+      (append-nil (flat_map text_of xs) ∙ append_cancel_left word (flat_map text_of xs) (flat_map text_of ys) e
+      ∙ sym (append-nil (flat_map text_of ys)))).items
 
   -- ---- whether bytes are items
 

@@ -1,8 +1,8 @@
 -- Texts of pairs, and the set that each is of: its pairs stand in the order of all pairs.
-use Rattle.std.proofs.Common.{◌≡◌, ◌≢◌, ◌⊎◌, ◌↔◌, ◌==◌, inl, inr, ℕ, ◌+◌, ◌<◌, ◌≤◌, Bool, true, false, List, [], ◌∷◌, ◌++◌, Option, Some, None, length, map, get_or, drop, drop-cons, add-one, append_assoc, refl, sym, ap, ◌∙◌, subst, cond, arith}
+use Rattle.std.proofs.Common.{◌≡◌, ◌≢◌, ◌⊎◌, ◌↔◌, inl, inr, ℕ, ◌+◌, ◌<◌, ◌≤◌, Bool, true, false, List, [], ◌∷◌, ◌++◌, Option, Some, None, length, map, get_or, drop, drop-cons, add-one, append_assoc, refl, sym, ap, ◌∙◌, subst, cond, arith}
 use Rattle.std.specs.Prelude.{IfSome}
 use Rattle.std.specs.List.{filter}
-use Rattle.std.proofs.lemmas.Bool.{cases_Bool, cond-true, cond-false, eqb-true, true≢false}
+use Rattle.std.proofs.lemmas.Bool.{cases_Bool, cond-true, cond-false, true≢false}
 use Rattle.std.proofs.lemmas.List.{append-nil}
 use Rattle.std.proofs.lemmas.List.Elements.{filter_agree}
 use Rattle.std.proofs.Math.ListN.{drop_of_length-le}
@@ -252,7 +252,7 @@ takes_pair text rest after set p left h is = record {
 -- ---- after all pairs
 
 -- what is left over is no set's
-pub no_set_left : (text rest : List ℕ) (set : Option (List Pair)) → ReadsPairs text rest set [] → rest ≢ []
+no_set_left : (text rest : List ℕ) (set : Option (List Pair)) → ReadsPairs text rest set [] → rest ≢ []
     → (other : List Pair) → IsSetText other → text ≢ pairs_text other
 no_set_left text rest set h more other is e =
     let o = h.others other is.in_order e in
@@ -337,11 +337,6 @@ passes_next text rest now set more table k any below h none kept same =
     (subst (λ s. ReadsPairs text rest s (left_of table (k + 1))) (sym kept)
     (passes_pair text rest set (pair_at table k any) (left_of table (k + 1))
     (subst (ReadsPairs text rest set) (next_left table k any below) h) none))
-
--- what the length of a list tells
-pub is_empty : (xs : List ℕ) → true ≡ (length xs == 0) → xs ≡ []
-is_empty [] e = refl
-is_empty (x ∷ xs) e = absurd (omega (arith, eqb-true (length (x ∷ xs)) 0 (sym e)))
 
 -- the set that was read, or that there is none
 set_or_none : (text : List ℕ) (set : Option (List Pair)) → ReadsPairs text [] set []

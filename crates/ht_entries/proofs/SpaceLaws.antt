@@ -13,13 +13,12 @@ use Rattle.std.proofs.lemmas.List.Sums.{fails_before_first}
 use Rattle.std.proofs.lemmas.Option.{none-some}
 use Rattle.std.proofs.lemmas.Str.Parse.{digit_from_value}
 use Rattle.std.proofs.Math.Seq.{get_or-append_seam, take-length}
-use Rattle.ht_texts.specs.Numbers.{IsNumberText}
 use Rattle.ht_entries.specs.ProofLines.{max_number, IsNumber}
 use Rattle.ht_entries.specs.ParsedLines.{IsSplitAt}
 
 -- ---- the first space
 
-abbrev IsNoSpace : ℕ → Type 0
+abbrev pub IsNoSpace : ℕ → Type 0
 IsNoSpace byte = byte ≢ 32
 
 abbrev is_space : ℕ → Bool
@@ -80,11 +79,6 @@ number_at_space text k n at number =
       );
     }
 
--- what follows a space
-pub after_space : (text : List ℕ) (k : ℕ) → take (length text - (k + 1)) (drop (k + 1) text) ≡ drop (k + 1) text
-after_space text k =
-    ap (λ n. take n (drop (k + 1) text)) (sym (length-drop (k + 1) text)) ∙ take-length (drop (k + 1) text)
-
 -- ---- two texts with one first space
 
 pub record SameParts (xs ys rest more : List ℕ) : Type 0 where
@@ -131,29 +125,9 @@ number_front_same m n rest more h k e =
       rests = same.rests;
     }
 
--- the digits of a text that begins with a number
-digits_then : (text digits after rest : List ℕ) (n : ℕ) → text ≡ digits ++ 32 ∷ after → All IsNoSpace digits
-    → n ≤ max_number → text ≡ decimal n ++ codes " " ++ rest → digits ≡ decimal n
-digits_then text digits after rest n is none h e =
-    (parts_same digits (decimal n) after rest none (number_has_no_space n h)
-    (sym is ∙ e ∙ append_assoc (decimal n) (codes " ") rest)).fronts
-
 -- what is no number isn't one before a space
 pub no_number_then : (text digits after : List ℕ) → text ≡ digits ++ 32 ∷ after → All IsNoSpace digits
-    → ((number : ℕ) → ¬ IsNumberText max_number digits number) → (number : ℕ) (rest : List ℕ) → IsNumber number
-    → text ≢ decimal number ++ codes " " ++ rest
-no_number_then text digits after is no_space none number rest counts e = none number (record {
-  digits = digits_then text digits after rest number is no_space counts.1 e;
-  bound = counts.1;
-})
-
--- nor is 0
-pub no_zero_then : (text digits after : List ℕ) (read : ℕ) → text ≡ digits ++ 32 ∷ after → All IsNoSpace digits
-    → IsNumberText max_number digits read → read ≡ 0 → (number : ℕ) (rest : List ℕ) → IsNumber number
-    → text ≢ decimal number ++ codes " " ++ rest
-no_zero_then text digits after read is no_space read_is zero number rest counts e =
-    let same : decimal read ≡ decimal number =
-    sym read_is.digits ∙ digits_then text digits after rest number is no_space counts.1 e in
-    let equal : read ≡ number =
-    decimal_injective read number (omega (arith, read_is.bound)) (omega (arith, counts.1)) same in
-    omega (arith, zero, equal, counts.0)
+    → ((number : ℕ) → IsNumber number → digits ≢ decimal number) → (number : ℕ) (rest : List ℕ) → IsNumber number
+    → text ≢ decimal number ++ 32 ∷ rest
+no_number_then text digits after is no_space none number rest counts e = none number counts
+    (parts_same digits (decimal number) after rest no_space (number_has_no_space number counts.1) (sym is ∙ e)).fronts

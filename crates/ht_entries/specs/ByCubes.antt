@@ -15,7 +15,7 @@ use Rattle.ht_entries.specs.declared.by_cubes.ByCubesLine.TheVariants as form
 use Rattle.ht_entries.specs.declared.by_cubes.ByCubesPart.{ByCubesPart}
 use Rattle.ht_entries.specs.LineWords.{IsNumber, IsIndex}
 use Rattle.ht_entries.specs.PartWords.{where_true}
-use Rattle.ht_entries.specs.ItemTexts.{spaced}
+use Rattle.ht_entries.specs.ItemTexts.{spaced, AreSome}
 use Rattle.ht_entries.specs.ProofLineLengths.{IsShortProofLine}
 
 -- ---- the words in its lines
@@ -80,10 +80,9 @@ pub record IsCubeText (cube : List Rail) : Type 0 where
   pub each : All IsRailText cube
   pub short : IsShortProofLine (cube_text cube)
 
--- The hints of a step have a text: there is one.
-pub record AreHints (hints : List ℕ) : Type 0 where
-  pub each : All IsNumber hints
-  pub some : 0 < length hints
+-- the hints of a step have a text: there is one
+abbrev pub AreHints : List ℕ → Type 0
+AreHints hints = AreSome IsNumber hints
 
 -- A step has a text: it has a hint, and its line isn't too long.
 pub record IsStepText (step : ClauseStep) : Type 0 where

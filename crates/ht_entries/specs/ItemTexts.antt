@@ -1,5 +1,5 @@
 -- Words and items that stand in a line one after the other, each after a space.
-use Rattle.std.specs.Prelude.{◌≡◌, ◌≢◌, ◌⊎◌, ℕ, List, [], ◌∷◌, ◌++◌, flat_map}
+use Rattle.std.specs.Prelude.{◌≡◌, ◌≢◌, ◌<◌, ◌⊎◌, ℕ, List, [], ◌∷◌, ◌++◌, flat_map, length}
 use Rattle.std.specs.List.{All}
 
 -- a word after a space
@@ -34,3 +34,23 @@ pub record AreTaken {A : Type 0} (text_of : A → List ℕ) (HasText : A → Typ
   pub parts : text ≡ flat_map text_of xs ++ rest
   pub each : All HasText xs
   pub ends : (xs ≡ []) ⊎ IsDelimited rest
+
+-- no word has a space in it
+abbrev pub HasPlainWords : {A : Type 0} → (A → List ℕ) → (A → Type 0) → Type 0
+HasPlainWords word_of HasText = (x : _) → HasText x → All (λ byte. byte ≢ 32) (word_of x)
+
+-- There is an item, and each has a text.
+pub record AreSome {A : Type 0} (HasText : A → Type 0) (xs : List A) : Type 0 where
+  pub some : 0 < length xs
+  pub each : All HasText xs
+
+-- Two items are one, and what follows them is the same.
+pub record SameItem {A : Type 0} (x y : A) (rest more : List ℕ) : Type 0 where
+  pub items : x ≡ y
+  pub rests : rest ≡ more
+
+-- Items are told apart: each begins with a space, and a text begins with no two.
+pub record AreItems {A : Type 0} (text_of : A → List ℕ) (HasText : A → Type 0) : Type 0 where
+  pub begins : (x : A) → (more : List ℕ) × (text_of x ≡ 32 ∷ more)
+  pub same : (x y : A) (rest more : List ℕ) → HasText x → HasText y → IsDelimited rest → IsDelimited more
+      → text_of x ++ rest ≡ text_of y ++ more → SameItem x y rest more

@@ -1,22 +1,20 @@
 //! The form of an entry that shows a fault undetectable by forbidden cubes.
-ghost use Rattle.std.specs.Prelude.{◌≡◌, ◌++◌, codes, flat_map, map, IfOk, OnOk};
-ghost use Rattle.std.specs.Fmt.{decimal};
+ghost use Rattle.std.specs.Prelude.{◌≡◌, ◌++◌, ◌∷◌, [], map, IfOk, OnOk};
 ghost use Rattle.ht_texts.specs.Lines.{with_lf};
 ghost use Rattle.ht_entries.specs.LineTexts.{lines_text};
-ghost use Rattle.ht_entries.specs.ItemTexts.{spaced};
 ghost use Rattle.ht_entries.specs.ParsedLines.{IsParsed};
 ghost use Rattle.ht_entries.specs.ProofLineLengths.{IsShortProofLine};
 ghost use Rattle.ht_entries.specs.ByCubes as by_cubes;
 
+use crate::found::Found;
 use crate::limits::MAX_PROOF_LINE_BYTES;
-use crate::parse_items::{take_numbers, take_rails, take_signed};
+use crate::line_items::{items_after, push_items, take_items};
 use crate::parse_words::{after_word, number_between};
 use crate::proof_line::ProofLine;
 use crate::push_item::with_item;
 use crate::write_line::push_entry_head;
 use ht_cubes::{ClauseStep, Cube, Rail, SignedVar};
 use ht_items::Items;
-use ht_texts::push_number;
 use ht_tree::Entry;
 use std::alloc::{AllocError, Global};
 
@@ -41,7 +39,7 @@ pub struct ByCubesPart {
 // ---- its lines read
 
 // The line of this form whose text these bytes are, without the LF, or `None` where they are the text of none.
-pub fn parse_by_cubes(alloc: Global, line: &[u8]) -> Result<Option<ByCubesLine>, AllocError>
+pub fn parse_by_cubes(alloc: Global, line: &[u8]) -> Found<ByCubesLine>
     ensures { IfOk result (λ parsed.
         IsParsed by_cubes.by_cubes_text by_cubes.IsByCubesLine line.now parsed) }
 {
@@ -61,23 +59,16 @@ pub fn parse_by_cubes(alloc: Global, line: &[u8]) -> Result<Option<ByCubesLine>,
 }
 
 // The line of a cube.
-fn parse_cube(alloc: Global, line: &[u8]) -> Result<Option<Cube>, AllocError>
+fn parse_cube(alloc: Global, line: &[u8]) -> Found<Cube>
     requires { IsShortProofLine line.now }
     ensures { IfOk result
         (λ parsed. IsParsed by_cubes.cube_text by_cubes.IsCubeText line.now parsed) }
 {
-    let Some(text) = after_word(line, b"never") else {
-        return Ok(None);
-    };
-    let (cube, rest) = take_rails(alloc, text)?;
-    if cube.as_slice().is_empty() || !rest.is_empty() {
-        return Ok(None);
-    }
-    Ok(Some(cube))
+    items_after::<Rail>(alloc, line, b"never")
 }
 
 // The line of a step.
-fn parse_step(alloc: Global, line: &[u8]) -> Result<Option<ClauseStep>, AllocError>
+fn parse_step(alloc: Global, line: &[u8]) -> Found<ClauseStep>
     requires { IsShortProofLine line.now }
     ensures { IfOk result
         (λ parsed. IsParsed by_cubes.step_text by_cubes.IsStepText line.now parsed) }
@@ -85,26 +76,11 @@ fn parse_step(alloc: Global, line: &[u8]) -> Result<Option<ClauseStep>, AllocErr
     let Some(text) = after_word(line, b"step") else {
         return Ok(None);
     };
-    let (literals, rest) = take_signed(alloc, text)?;
-    let Some(hints) = parse_hints(alloc, rest)? else {
+    let (literals, rest) = take_items::<SignedVar>(alloc, text)?;
+    let Some(hints) = items_after::<u32>(alloc, rest, b" by")? else {
         return Ok(None);
     };
     Ok(Some(ClauseStep { literals, hints }))
-}
-
-// The hints of a step, after the word for them.
-fn parse_hints(alloc: Global, text: &[u8]) -> Result<Option<Items<u32>>, AllocError>
-    ensures { IfOk result
-        (λ parsed. IsParsed by_cubes.hints_text by_cubes.AreHints text.now parsed) }
-{
-    let Some(numbers) = after_word(text, b" by") else {
-        return Ok(None);
-    };
-    let (hints, rest) = take_numbers(alloc, numbers)?;
-    if hints.as_slice().is_empty() || !rest.is_empty() {
-        return Ok(None);
-    }
-    Ok(Some(hints))
 }
 
 // ---- a line more of it
@@ -135,7 +111,7 @@ impl ByCubesPart {
 }
 
 // The part with one line more, or none where the line doesn't belong to it there.
-pub fn grow_by_cubes(part: ByCubesPart, line: &ProofLine) -> Result<Option<ByCubesPart>, AllocError>
+pub fn grow_by_cubes(part: ByCubesPart, line: &ProofLine) -> Found<ByCubesPart>
     ensures { IfOk result (λ grown. grown ≡ by_cubes.grow_by_cubes part line.now) }
 {
     match line {
@@ -146,31 +122,53 @@ pub fn grow_by_cubes(part: ByCubesPart, line: &ProofLine) -> Result<Option<ByCub
 }
 
 // A cube more, before any step.
-fn add_cube(part: ByCubesPart, cube: &Cube) -> Result<Option<ByCubesPart>, AllocError>
+fn add_cube(part: ByCubesPart, cube: &Cube) -> Found<ByCubesPart>
     ensures { IfOk result
         (λ grown. grown ≡ by_cubes.grow_by_cubes part (by_cubes.never_line cube.now)) }
 {
     if !part.steps.as_slice().is_empty() {
         return Ok(None);
     }
-    let cubes = with_item(part.cubes, cube.copy()?)?;
+    let cubes = with_cube(part.cubes, cube)?;
     Ok(Some(ByCubesPart { cubes, ..part }))
 }
 
+// The cubes and a copy of this one.
+fn with_cube(cubes: Items<Cube>, cube: &Cube) -> Result<Items<Cube>, AllocError>
+    ensures { IfOk result (λ more. more ≡ cubes ++ cube.now ∷ []) }
+{
+    let copy = cube.copy()?;
+    with_item(cubes, copy)
+}
+
 // A step more, after the cubes.
-fn add_step(part: ByCubesPart, step: &ClauseStep) -> Result<Option<ByCubesPart>, AllocError>
+fn add_step(part: ByCubesPart, step: &ClauseStep) -> Found<ByCubesPart>
     ensures { IfOk result
         (λ grown. grown ≡ by_cubes.grow_by_cubes part (by_cubes.step_line step.now)) }
 {
     if part.cubes.as_slice().is_empty() {
         return Ok(None);
     }
-    let copy = ClauseStep {
+    let steps = with_step(part.steps, step)?;
+    Ok(Some(ByCubesPart { steps, ..part }))
+}
+
+// The steps and a copy of this one.
+fn with_step(steps: Items<ClauseStep>, step: &ClauseStep) -> Result<Items<ClauseStep>, AllocError>
+    ensures { IfOk result (λ more. more ≡ steps ++ step.now ∷ []) }
+{
+    let copy = copied(step)?;
+    with_item(steps, copy)
+}
+
+// A copy of a step.
+fn copied(step: &ClauseStep) -> Result<ClauseStep, AllocError>
+    ensures { IfOk result (λ copy. copy ≡ step.now) }
+{
+    Ok(ClauseStep {
         literals: step.literals.copy()?,
         hints: step.hints.copy()?,
-    };
-    let steps = with_item(part.steps, copy)?;
-    Ok(Some(ByCubesPart { steps, ..part }))
+    })
 }
 
 // ---- its lines written
@@ -207,48 +205,8 @@ fn push_cube(text: &mut Vec<u8>, cube: &[Rail]) -> Result<(), AllocError>
         (text.new.items ≡ text.old.items ++ with_lf (by_cubes.cube_text cube.now)) }
 {
     text.extend_from_slice(b"never")?;
-    push_rails(text, cube)?;
+    push_items(text, cube)?;
     text.extend_from_slice(b"\n")
-}
-
-// Appends rails, each after a space.
-fn push_rails(text: &mut Vec<u8>, rails: &[Rail]) -> Result<(), AllocError>
-    ensures { OnOk result
-        (text.new.items ≡ text.old.items ++ flat_map by_cubes.rail_text rails.now) }
-{
-    for rail in rails {
-        push_rail(text, *rail)?;
-    }
-    Ok(())
-}
-
-// Appends a rail, after a space.
-fn push_rail(text: &mut Vec<u8>, rail: Rail) -> Result<(), AllocError>
-    ensures { OnOk result (text.new.items ≡ text.old.items ++ by_cubes.rail_text rail) }
-{
-    text.extend_from_slice(machine(rail.faulty))?;
-    push_number(text, u64::from(rail.dff) + 1)?;
-    text.extend_from_slice(bit(rail.value))
-}
-
-// The machine of a rail, after a space and before one.
-fn machine(faulty: bool) -> &'static [u8]
-    ensures { result.now ≡ spaced by_cubes.machine_word faulty ++ codes " " }
-{
-    match faulty {
-        false => b" good ",
-        true => b" faulty ",
-    }
-}
-
-// A bit, after a space.
-fn bit(value: bool) -> &'static [u8]
-    ensures { result.now ≡ spaced by_cubes.bit_word value }
-{
-    match value {
-        false => b" 0",
-        true => b" 1",
-    }
 }
 
 // Appends the lines of steps.
@@ -268,43 +226,8 @@ fn push_step(text: &mut Vec<u8>, step: &ClauseStep) -> Result<(), AllocError>
         (text.new.items ≡ text.old.items ++ with_lf (by_cubes.step_text step.now)) }
 {
     text.extend_from_slice(b"step")?;
-    push_literals(text, step.literals.as_slice())?;
+    push_items(text, step.literals.as_slice())?;
     text.extend_from_slice(b" by")?;
-    push_hints(text, step.hints.as_slice())?;
+    push_items(text, step.hints.as_slice())?;
     text.extend_from_slice(b"\n")
-}
-
-// Appends signed variables, each after a space.
-fn push_literals(text: &mut Vec<u8>, literals: &[SignedVar]) -> Result<(), AllocError>
-    ensures { OnOk result (text.new.items ≡ text.old.items
-        ++ flat_map (spaced by_cubes.signed_word) literals.now) }
-{
-    for literal in literals {
-        push_signed(text, *literal)?;
-    }
-    Ok(())
-}
-
-// Appends a signed variable, after a space.
-fn push_signed(text: &mut Vec<u8>, literal: SignedVar) -> Result<(), AllocError>
-    ensures { OnOk result
-        (text.new.items ≡ text.old.items ++ spaced by_cubes.signed_word literal) }
-{
-    match literal.value {
-        false => text.extend_from_slice(b" -")?,
-        true => text.extend_from_slice(b" ")?,
-    }
-    push_number(text, u64::from(literal.variable))
-}
-
-// Appends numbers, each after a space.
-fn push_hints(text: &mut Vec<u8>, hints: &[u32]) -> Result<(), AllocError>
-    ensures { OnOk result
-        (text.new.items ≡ text.old.items ++ flat_map (spaced decimal) hints.now) }
-{
-    for hint in hints {
-        text.extend_from_slice(b" ")?;
-        push_number(text, u64::from(*hint))?;
-    }
-    Ok(())
 }

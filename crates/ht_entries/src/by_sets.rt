@@ -10,6 +10,7 @@ ghost use Rattle.ht_entries.specs.ParsedLines.{IsParsed};
 ghost use Rattle.ht_entries.specs.PartWords.{is_above};
 ghost use Rattle.ht_entries.specs.BySets as by_sets;
 
+use crate::found::Found;
 use crate::parse_words::{after_word, number_before_space, number_between};
 use crate::proof_line::ProofLine;
 use crate::push_item::with_item;
@@ -117,10 +118,7 @@ fn with_pair(set: Option<PairSet>, good: Tern, faulty: Tern) -> PairSet
 // ---- a line more of it
 
 // The rows with that of the line, or none where the line doesn't belong to the entry there.
-pub fn grow_by_sets(
-    rows: Items<FamilyRow>,
-    line: &ProofLine,
-) -> Result<Option<Items<FamilyRow>>, AllocError>
+pub fn grow_by_sets(rows: Items<FamilyRow>, line: &ProofLine) -> Found<Items<FamilyRow>>
     ensures { IfOk result (λ grown. grown ≡ by_sets.grow_by_sets rows line.now) }
 {
     let ProofLine::BySets(BySetsLine::Pairs(row)) = line else {

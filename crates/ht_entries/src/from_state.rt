@@ -1,24 +1,29 @@
 //! The form of an entry that refutes a fault from one named state.
-ghost use Rattle.std.specs.Prelude.{◌≡◌, ◌≢◌, ◌++◌, ◌∷◌, [], ℕ, is_some, IsTrue, List, Some, IfOk, IfSome, IfNone, OnOk, MatchOption, flat_map};
+ghost use Rattle.std.specs.Prelude.{◌≡◌, ◌≢◌, ◌++◌, ◌∷◌, ◌&&◌, [], ℕ, is_some, ltb, length, IsTrue, List, Some, IfOk, IfSome, IfNone, OnOk, MatchOption, flat_map};
 ghost use Rattle.ht_texts.specs.Lines.{with_lf};
 ghost use Rattle.ht_texts.specs.Tests.{vector_text};
+ghost use Rattle.ht_tree.specs.Invariants.{max_clauses};
 ghost use Rattle.ht_tree.specs.declared.clause.Literal.{Literal};
 ghost use Rattle.ht_entries.specs.declared.from_state.FromStateLine.TheVariants as form;
 ghost use Rattle.ht_entries.specs.declared.proof_line.ProofLine.TheVariants as one;
 ghost use Rattle.ht_entries.specs.LineTexts.{lines_text};
 ghost use Rattle.ht_entries.specs.LineWords.{IsIndex, IsNumber};
 ghost use Rattle.ht_entries.specs.ParsedLines.{IsParsed};
+ghost use Rattle.ht_entries.specs.PartWords.{where_true, is_above};
 ghost use Rattle.ht_entries.specs.FromState as from_state;
 
+use crate::found::Found;
 use crate::parse_words::{after_word, number_then};
 use crate::proof_line::ProofLine;
 use crate::push_item::with_item;
 use crate::refutation::{is_above, with_token};
+use crate::write_line::push_bits;
 use crate::write_lists::push_tokens;
 use ht_items::Items;
-use ht_texts::{push_number, read_vector, write_vector};
+use ht_texts::{push_number, read_vector};
 use ht_tree::{Clause, Entry, Literal, Token};
 use std::alloc::{AllocError, Global};
+use std::mem;
 
 // The most bits of a state: as many as a circuit has flip-flops at most.
 const MAX_BITS: usize = 16_384;
@@ -53,7 +58,7 @@ pub struct FromStatePart {
 // ---- its lines read
 
 // The line of this form whose text these bytes are, without the LF, or `None` where they are the text of none.
-pub fn parse_from_state(alloc: Global, line: &[u8]) -> Result<Option<FromStateLine>, AllocError>
+pub fn parse_from_state(alloc: Global, line: &[u8]) -> Found<FromStateLine>
     ensures { IfOk result (λ parsed.
         IsParsed from_state.from_state_text from_state.IsFromStateLine line.now parsed) }
 {
@@ -121,7 +126,7 @@ fn parse_second(first: Literal, text: &[u8]) -> Option<Literal>
 }
 
 // The line that begins the entry.
-fn parse_first(alloc: Global, line: &[u8]) -> Result<Option<FromStateLine>, AllocError>
+fn parse_first(alloc: Global, line: &[u8]) -> Found<FromStateLine>
     ensures some { IfOk result (λ parsed. IfSome parsed (λ l.
         from_state.IsFromStateLineText line.now l)) }
     ensures none { IfOk result (λ parsed. IfNone parsed (from_state.IsNoFirstLine line.now)) }
@@ -149,7 +154,7 @@ fn number_and_bits(line: &[u8]) -> Option<(u32, &[u8])>
 }
 
 // The state, one character for each bit.
-fn parse_state(alloc: Global, text: &[u8]) -> Result<Option<Items<bool>>, AllocError>
+fn parse_state(alloc: Global, text: &[u8]) -> Found<Items<bool>>
     ensures { IfOk result (λ parsed. IsParsed vector_text from_state.IsStateText text.now parsed) }
 {
     if text.is_empty() || text.len() > MAX_BITS {
@@ -190,107 +195,118 @@ impl FromStatePart {
 }
 
 // The part with one line more, or none where the line doesn't belong to it there.
-pub fn grow_from_state(
-    alloc: Global,
-    part: FromStatePart,
-    line: &ProofLine,
-) -> Result<Option<FromStatePart>, AllocError>
+pub fn grow_from_state(alloc: Global, part: FromStatePart, line: &ProofLine) -> Found<FromStatePart>
     ensures { IfOk result (λ grown. grown ≡ from_state.grow_from_state part line.now) }
 {
-    if part.walk.is_some() {
-        return grow_window_walk(part, line);
+    let mut part = part;
+    match add_line(alloc, &mut part, line)? {
+        true => Ok(Some(part)),
+        false => Ok(None),
     }
-    grow_before_walk(alloc, part, line)
+}
+
+// Adds a line to the part, where it belongs to it there, and says whether it does.
+fn add_line(alloc: Global, part: &mut FromStatePart, line: &ProofLine) -> Result<bool, AllocError>
+    ensures { IfOk result (λ added.
+        where_true added part.new ≡ from_state.grow_from_state part.old line.now) }
+{
+    if part.walk.is_some() {
+        return add_to_walk(part, line);
+    }
+    add_before_walk(alloc, part, line)
 }
 
 // In the walk of the window: a token more.
-fn grow_window_walk(
-    part: FromStatePart,
-    line: &ProofLine,
-) -> Result<Option<FromStatePart>, AllocError>
-    requires { IsTrue (is_some part.walk) }
-    ensures { IfOk result (λ grown. grown ≡ from_state.grow_from_state part line.now) }
+fn add_to_walk(part: &mut FromStatePart, line: &ProofLine) -> Result<bool, AllocError>
+    requires { IsTrue (is_some part.old.walk) }
+    ensures { IfOk result (λ added.
+        where_true added part.new ≡ from_state.grow_from_state part.old line.now) }
 {
     let ProofLine::Token(token) = line else {
-        return Ok(None);
+        return Ok(false);
     };
-    let FromStatePart {
-        state,
-        clauses,
-        z,
-        walk,
-    } = part;
-    let Some(tokens) = walk else {
-        return Ok(None);
+    let Some(walk) = mem::replace(&mut part.walk, None) else {
+        return Ok(false);
     };
-    let tokens = with_token(tokens, *token)?;
-    Ok(Some(FromStatePart {
-        state,
-        clauses,
-        z,
-        walk: Some(tokens),
-    }))
+    part.walk = Some(with_token(walk, *token)?);
+    Ok(true)
 }
 
 // Before that walk: a clause, a token of its walk, a flip-flop, or the walk begins.
-fn grow_before_walk(
+fn add_before_walk(
     alloc: Global,
-    part: FromStatePart,
+    part: &mut FromStatePart,
     line: &ProofLine,
-) -> Result<Option<FromStatePart>, AllocError>
-    ensures { IfOk result (λ grown. grown ≡ from_state.grow_before_walk part line.now) }
+) -> Result<bool, AllocError>
+    ensures { IfOk result (λ added.
+        where_true added part.new ≡ from_state.grow_before_walk part.old line.now) }
 {
     match line {
         ProofLine::FromState(line) => add_clause(alloc, part, line),
-        ProofLine::Token(token) => add_token(part, *token),
+        ProofLine::Token(token) => add_token(alloc, part, *token),
         ProofLine::Z(index) => add_z(part, *index),
         ProofLine::Walk => Ok(begin_walk(alloc, part)),
-        _ => Ok(None),
+        _ => Ok(false),
     }
 }
 
 // A clause more, before any flip-flop.
 fn add_clause(
     alloc: Global,
-    part: FromStatePart,
+    part: &mut FromStatePart,
     line: &FromStateLine,
-) -> Result<Option<FromStatePart>, AllocError>
-    ensures { IfOk result (λ grown. grown
-        ≡ from_state.grow_before_walk part (one.FromState line.now)) }
+) -> Result<bool, AllocError>
+    ensures { IfOk result (λ added. where_true added part.new
+        ≡ from_state.grow_before_walk part.old (one.FromState line.now)) }
 {
     let FromStateLine::Clause { first, second } = line else {
-        return Ok(None);
+        return Ok(false);
     };
-    if !part.z.as_slice().is_empty() || part.clauses.as_slice().len() >= MAX_CLAUSES {
-        return Ok(None);
+    if !may_add_clause(part) {
+        return Ok(false);
     }
-    let clause = Clause {
-        first: *first,
-        second: *second,
+    let clauses = mem::replace(&mut part.clauses, Items::new(alloc));
+    part.clauses = with_item(clauses, new_clause(alloc, *first, *second))?;
+    Ok(true)
+}
+
+// Whether a clause more may come: before any flip-flop, while there are few.
+fn may_add_clause(part: &FromStatePart) -> bool
+    ensures { result ≡ (from_state.is_in_clauses part.now
+        && ltb (length part.now.clauses) max_clauses) }
+{
+    part.z.as_slice().is_empty() && part.clauses.as_slice().len() < MAX_CLAUSES
+}
+
+// A clause of which no token was read.
+fn new_clause(alloc: Global, first: Literal, second: Option<Literal>) -> Clause
+    ensures { result ≡ from_state.new_clause first second }
+{
+    Clause {
+        first,
+        second,
         tokens: Items::new(alloc),
-    };
-    let clauses = with_item(part.clauses, clause)?;
-    Ok(Some(FromStatePart { clauses, ..part }))
+    }
 }
 
 // A token more in the walk of the last clause, before any flip-flop.
-fn add_token(part: FromStatePart, token: Token) -> Result<Option<FromStatePart>, AllocError>
-    ensures { IfOk result (λ grown. grown ≡ from_state.grow_before_walk part (one.Token token)) }
+fn add_token(alloc: Global, part: &mut FromStatePart, token: Token) -> Result<bool, AllocError>
+    ensures { IfOk result (λ added. where_true added part.new
+        ≡ from_state.grow_before_walk part.old (one.Token token)) }
 {
     if !part.z.as_slice().is_empty() {
-        return Ok(None);
+        return Ok(false);
     }
-    let Some(clauses) = with_clause_token(part.clauses, token)? else {
-        return Ok(None);
+    let clauses = mem::replace(&mut part.clauses, Items::new(alloc));
+    let Some(clauses) = with_clause_token(clauses, token)? else {
+        return Ok(false);
     };
-    Ok(Some(FromStatePart { clauses, ..part }))
+    part.clauses = clauses;
+    Ok(true)
 }
 
 // The clauses, with a token more in the walk of the last.
-fn with_clause_token(
-    clauses: Items<Clause>,
-    token: Token,
-) -> Result<Option<Items<Clause>>, AllocError>
+fn with_clause_token(clauses: Items<Clause>, token: Token) -> Found<Items<Clause>>
     ensures { IfOk result (λ more. more ≡ from_state.add_clause_token clauses token) }
 {
     let mut clauses = clauses.into_vec();
@@ -313,26 +329,33 @@ fn clause_with_token(clause: Clause, token: Token) -> Result<Clause, AllocError>
 }
 
 // A flip-flop more, which is above the last.
-fn add_z(part: FromStatePart, index: u32) -> Result<Option<FromStatePart>, AllocError>
-    ensures { IfOk result (λ grown. grown ≡ from_state.grow_before_walk part (one.Z index)) }
+fn add_z(part: &mut FromStatePart, index: u32) -> Result<bool, AllocError>
+    ensures { IfOk result (λ added. where_true added part.new
+        ≡ from_state.grow_before_walk part.old (one.Z index)) }
 {
-    if part.clauses.as_slice().is_empty() || !is_above(part.z.as_slice(), index) {
-        return Ok(None);
+    if !may_add_z(part, index) {
+        return Ok(false);
     }
-    let mut part = part;
     part.z.push(index)?;
-    Ok(Some(part))
+    Ok(true)
+}
+
+// Whether a flip-flop may come: after some clause, above the last.
+fn may_add_z(part: &FromStatePart, index: u32) -> bool
+    ensures { result ≡ (from_state.has_clause part.now && is_above part.now.z index) }
+{
+    !part.clauses.as_slice().is_empty() && is_above(part.z.as_slice(), index)
 }
 
 // The walk of the window begins.
-fn begin_walk(alloc: Global, part: FromStatePart) -> Option<FromStatePart>
-    ensures { result ≡ from_state.grow_before_walk part one.Walk }
+fn begin_walk(alloc: Global, part: &mut FromStatePart) -> bool
+    ensures { where_true result part.new ≡ from_state.grow_before_walk part.old one.Walk }
 {
     if part.clauses.as_slice().is_empty() {
-        return None;
+        return false;
     }
-    let walk = Some(Items::new(alloc));
-    Some(FromStatePart { walk, ..part })
+    part.walk = Some(Items::new(alloc));
+    true
 }
 
 // ---- its lines written
@@ -350,7 +373,7 @@ pub fn push_first(
     text.extend_from_slice(b"entry ")?;
     push_number(text, u64::from(number))?;
     text.extend_from_slice(b" untestable from ")?;
-    text.extend_from_slice(&write_vector(alloc, state)?)
+    push_bits(alloc, text, state)
 }
 
 // Appends the lines of the clauses and of their walks.

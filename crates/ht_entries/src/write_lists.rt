@@ -12,7 +12,7 @@ use ht_tree::{Aim, Assign, Token, Told};
 use std::alloc::{AllocError, Global};
 
 // Appends the lines of the flip-flops at which the two machines may differ.
-pub fn push_z(text: &mut Vec<u8>, z: &[u32]) -> Result<(), AllocError>
+fn push_z(text: &mut Vec<u8>, z: &[u32]) -> Result<(), AllocError>
     ensures { OnOk result (text.new.items ≡ text.old.items ++ lines_text (z_lines z.now)) }
 {
     for j in z {
@@ -65,11 +65,28 @@ pub fn push_told(text: &mut Vec<u8>, told: &[Told]) -> Result<(), AllocError>
 pub fn push_walk(text: &mut Vec<u8>, walk: &Option<Items<Token>>) -> Result<(), AllocError>
     ensures { OnOk result (text.new.items ≡ text.old.items ++ lines_text (walk_lines walk.now)) }
 {
-    let Some(tokens) = walk else {
-        return Ok(());
-    };
+    match walk {
+        Some(tokens) => push_begun_walk(text, tokens.as_slice()),
+        None => Ok(()),
+    }
+}
+
+// Appends the lines of a walk.
+fn push_begun_walk(text: &mut Vec<u8>, tokens: &[Token]) -> Result<(), AllocError>
+    ensures { OnOk result
+        (text.new.items ≡ text.old.items ++ lines_text (walk_lines (Some tokens.now))) }
+{
     text.extend_from_slice(b"walk\n")?;
-    push_tokens(text, tokens.as_slice())
+    push_tokens(text, tokens)
+}
+
+// Appends the lines of the flip-flops at which the two machines may differ, and of the walk of the window.
+pub fn push_window(text: &mut Vec<u8>, z: &[u32], tokens: &[Token]) -> Result<(), AllocError>
+    ensures { OnOk result (text.new.items ≡ text.old.items
+        ++ (lines_text (z_lines z.now) ++ lines_text (walk_lines (Some tokens.now)))) }
+{
+    push_z(text, z)?;
+    push_begun_walk(text, tokens)
 }
 
 // Appends the lines of vectors, each after the word for their list.

@@ -1,15 +1,11 @@
-use Rattle.std.proofs.Common.{◌≡◌, ◌≢◌, ◌⊎◌, [], inl, inr}
-use Rattle.ht_entries.proofs.CubeLineLaws.{empty_by, no_cube, some_by}
-use Rattle.ht_entries.proofs.by_cubes.parse_cube.Goals.{then-is_empty-via-then-is_empty, then-is_empty-via-else-is_empty+then-not-is_empty}
+use Rattle.std.proofs.lemmas.Result.{IfOk-weaker}
+use Rattle.ht_entries.proofs.CubeLineLaws.{parsed_cube}
+use Rattle.ht_entries.proofs.CubesTextLaws.{rails_are_items}
 use Rattle.ht_entries.proofs.by_cubes.parse_cube.Goals as goal
 
-pub returns-then-is_empty : goal.returns-then-is_empty
-returns-then-is_empty c =
-    let why : (c.in_ok-cube.cube ≡ []) ⊎ (c.in_ok-cube.rest.now ≢ []) = elim c.then-is_empty.branch [
-      | then-is_empty-via-then-is_empty w ↦
-          inl (empty_by c.in_ok-cube.cube (rw c.as_slice.ensures at w.if-is_empty.ensures))
-      | then-is_empty-via-else-is_empty+then-not-is_empty w ↦
-          inr (some_by c.in_ok-cube.rest.now w.if-not-is_empty.ensures)
-    ] in
-    no_cube c.args.line.now c.in-Some.text.now c.in_ok-cube.rest.now c.in_ok-cube.cube c.in-Some.ensures
-    c.in_ok-cube.ensures.taken c.in_ok-cube.ensures.all why
+pub items_after-requires : goal.items_after-requires
+items_after-requires c = rails_are_items
+
+pub returns : goal.returns
+returns c = IfOk-weaker c.items_after.result _ _ (λ parsed. parsed_cube c.args.line.now parsed c.requires)
+    c.items_after.ensures

@@ -1,6 +1,6 @@
 use Rattle.std.proofs.Common.{Some, ap, ◌∙◌}
-use Rattle.ht_entries.proofs.FromStateTextLaws.{not_empty}
-use Rattle.ht_entries.proofs.PairsTextLaws.{begins_reading, takes_next, passes_next, is_empty, parsed_set, no_parsed_set}
+use Rattle.ht_entries.proofs.PairsTextLaws.{begins_reading, takes_next, passes_next, parsed_set, no_parsed_set}
+use Rattle.ht_entries.proofs.ParsedLaws.{empty_by, some_by}
 use Rattle.ht_entries.proofs.by_sets.parse_set.Goals.{in-Some, in_default}
 use Rattle.ht_entries.proofs.by_sets.parse_set.Goals as goal
 
@@ -20,8 +20,8 @@ loop-good-preserved c = elim c.match-after_pair.branch [
 pub returns-then-not-is_empty : goal.returns-then-not-is_empty
 returns-then-not-is_empty c = no_parsed_set c.args.text.now c.loop-good.rest.now c.loop-good.set _
     c.loop-good.good-index c.loop-good-test.false c.loop-good.invariant
-    (not_empty c.loop-good.rest.now c.if-not-is_empty.ensures)
+    (some_by c.loop-good.rest.now c.if-not-is_empty.ensures)
 
 pub returns : goal.returns
 returns c = parsed_set c.args.text.now c.loop-good.rest.now c.loop-good.set _ c.loop-good.good-index
-    c.loop-good-test.false c.loop-good.invariant (is_empty c.loop-good.rest.now c.if-not-is_empty.ensures)
+    c.loop-good-test.false c.loop-good.invariant (empty_by c.loop-good.rest.now c.if-not-is_empty.ensures)

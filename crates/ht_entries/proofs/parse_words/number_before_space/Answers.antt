@@ -1,7 +1,6 @@
-use Rattle.std.proofs.Common.{drop, take, append_assoc, ◌+◌, sym, ◌∙◌, arith}
-use Rattle.std.specs.Prelude.{codes}
+use Rattle.std.proofs.Common.{drop, take, ◌+◌, sym, ◌∙◌}
 use Rattle.std.specs.Fmt.{decimal}
-use Rattle.ht_entries.proofs.SpaceLaws.{has_no_space, first_space, no_number_then, no_zero_then, number_at_space}
+use Rattle.ht_entries.proofs.SpaceLaws.{has_no_space, first_space, no_number_then, number_at_space}
 use Rattle.ht_entries.proofs.parse_words.number_before_space.Goals as goal
 
 pub returns-in_err-space : goal.returns-in_err-space
@@ -13,22 +12,12 @@ returns-in_err-number c =
     let text = c.args.text.now in
     let k = c.in_ok-space.space in
     let split = first_space text k (sym c.find_space.ensures ∙ c.in_ok-space.was) in
-    rw c.from_residual-in_err-number.ensures (λ number rest counts e.
-    no_number_then text (take k text) (drop (k + 1) text) split.parts split.before c.in_err-number.ensures number rest
-    counts (e ∙ sym (append_assoc (decimal number) (codes " ") rest)))
-
-pub returns-then-number-eq0 : goal.returns-then-number-eq0
-returns-then-number-eq0 c = λ number rest counts e.
-    let text = c.args.text.now in
-    let k = c.in_ok-space.space in
-    let split = first_space text k (sym c.find_space.ensures ∙ c.in_ok-space.was) in
-    no_zero_then text (take k text) (drop (k + 1) text) c.in_ok-number.number split.parts split.before
-    c.in_ok-number.ensures c.if-number-eq0.true number rest counts
-    (e ∙ sym (append_assoc (decimal number) (codes " ") rest))
+    rw c.from_residual-in_err-number.ensures
+    (no_number_then text (take k text) (drop (k + 1) text) split.parts split.before c.in_err-number.ensures)
 
 pub returns : goal.returns
 returns c = (
-  (omega arith, c.in_ok-number.ensures.bound),
+  c.in_ok-number.ensures.1,
   number_at_space c.args.text.now c.in_ok-space.space c.in_ok-number.number
-      (sym c.find_space.ensures ∙ c.in_ok-space.was) c.in_ok-number.ensures.digits,
+      (sym c.find_space.ensures ∙ c.in_ok-space.was) c.in_ok-number.ensures.0,
 )

@@ -1,12 +1,20 @@
-use Rattle.ht_entries.proofs.SpaceLaws.{no_number_then, no_zero_then}
+use Rattle.std.proofs.Common.{append_assoc, ◌++◌, sym, ap, ◌∙◌}
+use Rattle.std.specs.Prelude.{codes}
+use Rattle.std.specs.Fmt.{decimal}
 use Rattle.ht_entries.proofs.parse_words.number_then.Goals as goal
 
 pub returns-in_err-number : goal.returns-in_err-number
-returns-in_err-number c = rw c.from_residual-in_err-number.ensures (no_number_then c.args.text.now
-    c.in_ok-digits.digits.now c.in_ok-digits.rest.now c.in_ok-digits.ensures.0 c.in_ok-digits.ensures.1
-    c.in_err-number.ensures)
+returns-in_err-number c = rw c.from_residual.ensures (λ number rest counts e.
+    c.in_err-number.ensures number rest counts (e ∙ append_assoc (decimal number) (codes " ") rest))
 
-pub returns-then-number-eq0 : goal.returns-then-number-eq0
-returns-then-number-eq0 c = no_zero_then c.args.text.now c.in_ok-digits.digits.now c.in_ok-digits.rest.now
-    c.in_ok-number.number c.in_ok-digits.ensures.0 c.in_ok-digits.ensures.1 c.in_ok-number.ensures
-    c.if-number-eq0.true
+pub returns-in_err-rest : goal.returns-in_err-rest
+returns-in_err-rest c =
+    let space = c.in_ok-number.ensures.1.space in absurd (c.in_err-rest.ensures space.0 space.1)
+
+pub returns : goal.returns
+returns c =
+    let number = c.in_ok-number.number in (
+      c.in_ok-number.ensures.0,
+      c.in_ok-number.ensures.1.parts ∙ ap (λ t. decimal number ++ t) c.in_ok-rest.ensures
+          ∙ sym (append_assoc (decimal number) (codes " ") c.in_ok-rest.rest.now),
+    )

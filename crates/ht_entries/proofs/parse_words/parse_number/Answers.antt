@@ -1,11 +1,8 @@
-use Rattle.std.proofs.Common.{[], refl}
-use Rattle.ht_entries.proofs.ParsedLaws.{no_number_after, no_zero_after}
+use Rattle.ht_entries.proofs.ParsedLaws.{no_number, no_zero}
 use Rattle.ht_entries.proofs.parse_words.parse_number.Goals as goal
 
 pub returns-in_err-number : goal.returns-in_err-number
-returns-in_err-number c = rw c.from_residual.ensures (no_number_after c.args.text.now [] c.args.text.now refl
-    c.in_err-number.ensures)
+returns-in_err-number c = rw c.from_residual.ensures (no_number c.args.text.now c.in_err-number.ensures)
 
 pub returns-then-number-eq0 : goal.returns-then-number-eq0
-returns-then-number-eq0 c = no_zero_after c.args.text.now [] c.args.text.now c.in_ok-number.number refl
-    c.in_ok-number.ensures c.if-number-eq0.true
+returns-then-number-eq0 c = no_zero c.args.text.now c.in_ok-number.number c.in_ok-number.ensures c.if-number-eq0.true
