@@ -18,7 +18,7 @@ use ht_tern::Tern;
 use std::alloc::{AllocError, Global};
 
 // The fewest nets of a circuit in which finding those that matter takes less time than it saves.
-const FEWEST_NETS: u32 = 2_500;
+const FEWEST_NETS: u32 = 4_000;
 
 /// Whether a circuit is too small for finding the nets that matter to save time.
 pub fn is_small(circuit: &Circuit) -> bool {
