@@ -1,5 +1,5 @@
 -- How many classes there are, and of how many of them each verdict is said.
-use Rattle.std.specs.Prelude.{◌≡◌, ℕ, ◌+◌, List, Bool, if◌then◌else◌}
+use Rattle.std.specs.Prelude.{◌≡◌, ◌<◌, ◌^◌, ℕ, ◌+◌, ◌-◌, List, Bool, if◌then◌else◌}
 use Rattle.std.specs.List.{count_by, filter, range_with_len}
 use Rattle.ht_faults.specs.Classes.{is_representative, own_representatives, class_count}
 use Rattle.ht_texts.specs.declared.item.Item.{Item}
@@ -38,6 +38,14 @@ representatives_below representatives n = filter (is_representative representati
 -- one more where the test passes
 abbrev pub one_if : Bool → ℕ
 one_if test = if test then 1 else 0
+
+-- One class more can be counted, whatever is said of it.
+pub record CanCount (sums : Sums) : Type 0 where
+  pub detected : sums.detected < 2 ^ 32 - 1
+  pub untestable : sums.untestable < 2 ^ 32 - 1
+  pub aborted : sums.aborted < 2 ^ 32 - 1
+  pub undetectable : sums.undetectable < 2 ^ 32 - 1
+  pub undetected : sums.undetected < 2 ^ 32 - 1
 
 -- one class more is counted, of which this is said
 pub record CountsOne (said : Said) (old new : Sums) : Type 0 where

@@ -1,7 +1,7 @@
 //! How many classes there are, and of how many of them each verdict is said.
-ghost use Rattle.std.specs.Prelude.{◌≡◌, ◌<◌, ◌-◌, ◌^◌, [], length};
+ghost use Rattle.std.specs.Prelude.{◌≡◌, [], length};
 ghost use Rattle.ht_faults.specs.Classes.{class_count};
-ghost use Rattle.ht_texts.specs.Counts.{CountsOne, CountsItem, sums_among, sums_of};
+ghost use Rattle.ht_texts.specs.Counts.{CanCount, CountsOne, CountsItem, sums_among, sums_of};
 
 use crate::item::Item;
 use crate::said::Said;
@@ -49,11 +49,7 @@ impl Sums {
 
     // Counts what a line of a report says: a class where it is the line of a representative.
     pub(crate) fn count_item(&mut self, item: Item)
-        requires detected { self.old.detected < 2 ^ 32 - 1 }
-        requires untestable { self.old.untestable < 2 ^ 32 - 1 }
-        requires aborted { self.old.aborted < 2 ^ 32 - 1 }
-        requires undetectable { self.old.undetectable < 2 ^ 32 - 1 }
-        requires undetected { self.old.undetected < 2 ^ 32 - 1 }
+        requires { CanCount self.old }
         ensures { CountsItem item self.old self.new }
     {
         if let Item::Verdict { said, .. } = item {
@@ -63,11 +59,7 @@ impl Sums {
 
     // Counts one class, of which this is said.
     fn count(&mut self, said: Said)
-        requires detected { self.old.detected < 2 ^ 32 - 1 }
-        requires untestable { self.old.untestable < 2 ^ 32 - 1 }
-        requires aborted { self.old.aborted < 2 ^ 32 - 1 }
-        requires undetectable { self.old.undetectable < 2 ^ 32 - 1 }
-        requires undetected { self.old.undetected < 2 ^ 32 - 1 }
+        requires { CanCount self.old }
         ensures { CountsOne said self.old self.new }
     {
         match said {

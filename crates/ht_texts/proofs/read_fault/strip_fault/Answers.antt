@@ -1,4 +1,4 @@
-use Rattle.std.proofs.Common.{◌+◌, ◌<◌, ℕ, List, [], ◌∷◌, ◌++◌, length, get_or, sym, ◌∙◌, ap, subst}
+use Rattle.std.proofs.Common.{◌+◌, ℕ, List, [], ◌∷◌, ◌++◌, get_or, ◌∙◌, ap, subst}
 use Rattle.std.specs.Prelude.{codes}
 use Rattle.std.specs.Fmt.{decimal}
 use Rattle.ht_net.specs.declared.fault.Fault.{Fault}
@@ -7,18 +7,13 @@ use Rattle.ht_faults.specs.Classes.{fault_at}
 use Rattle.ht_texts.specs.Fronts.{Strips}
 use Rattle.ht_texts.specs.Pieces.{word, number, pieces_text}
 use Rattle.ht_texts.specs.Reports.{fault_pieces}
-use Rattle.ht_texts.specs.Sites.{IsSite}
 use Rattle.ht_texts.proofs.FrontLaws.{strips_pieces}
-use Rattle.ht_texts.proofs.SiteLaws.{fault_is_on_line}
+use Rattle.ht_texts.proofs.SiteLaws.{listed_is_on_line}
 use Rattle.ht_texts.proofs.read_fault.strip_fault.Goals as goal
 
 pub strip_stuck_line-rest-requires : goal.strip_stuck_line-rest-requires
-strip_stuck_line-rest-requires c =
-    let circuit = c.args.circuit.now in
-    let i = c.args.i in
-    let is = c.get.ensures ∙ ap (λ (l : List Fault). get_or l i no_fault) c.requires.faults in
-    let inside = subst (λ (l : List Fault). i < length l) c.requires.faults c.requires.fault in
-    subst (λ (f : Fault). IsSite circuit f.site) (sym is) (fault_is_on_line circuit i inside)
+strip_stuck_line-rest-requires c = listed_is_on_line c.args.circuit.now c.args.faults.now c.args.i c.get.result
+    c.requires.faults c.requires.fault c.get.ensures
 
 pub returns : goal.returns
 returns c =
