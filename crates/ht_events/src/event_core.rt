@@ -3,6 +3,7 @@ ghost use Rattle.std.specs.Prelude.{◌≡◌, ℕ, ◌<◌, ◌≤◌, ◌+◌,
 ghost use Rattle.ht_net.specs.Netlist.{net_count};
 ghost use Rattle.ht_events.specs.Items.{IsLoad, IsReader, frame_items, item_at, item_count};
 ghost use Rattle.ht_events.specs.Plans.{StandsAt, position_at};
+ghost use Rattle.ht_events.specs.Firings.{GoesOn, IsFired};
 ghost use Rattle.ht_events.specs.Pending.{CoreState, IsPending, IsPendingAt, QuietAgree, core_items, pending_count, pends};
 
 use crate::frame_plan::FramePlan;
@@ -198,18 +199,10 @@ impl<'c> Core<'c> {
         requires item { item < core_items self.old }
         requires pending { IsPending self.old item }
         ensures plan { self.new.plan ≡ self.old.plan }
-        ensures circuit { P.circuit plant.new ≡ P.circuit plant.old }
-        ensures frames { P.frames plant.new ≡ P.frames plant.old }
-        ensures price { P.price plant.new ≡ P.price plant.old }
-        ensures keeps { P.keeps plant.old plant.new }
-        ensures rises { P.spent plant.old ≤ P.spent plant.new }
-        ensures spent { P.spent plant.new ≤ P.spent plant.old + P.price plant.old }
+        ensures goes_on { GoesOn P.Plant plant.old plant.new }
         ensures agree { QuietAgree self.old (P.agrees plant.old)
             → QuietAgree self.new (P.agrees plant.new) }
-        ensures fired { OnOk result (P.agrees plant.new item) }
-        ensures taken { OnOk result (¬ IsPending self.new item) }
-        ensures only { OnOk result ((x : ℕ) → x < core_items self.old → IsPending self.new x
-            → IsPending self.old x ⊎ IsLoad self.old.plan.circuit self.old.plan.frames item x) }
+        ensures fired { OnOk result (IsFired P.Plant self.old item self.new plant.new) }
         ensures err { OnErr result (self.new ≡ self.old) }
     {
         let (frame, local) = self.plan.split(item);
@@ -232,21 +225,11 @@ impl<'c> Core<'c> {
         requires stands { StandsAt self.old.plan (item_at self.old.plan.circuit frame local)
             position }
         ensures plan { self.new.plan ≡ self.old.plan }
-        ensures circuit { P.circuit plant.new ≡ P.circuit plant.old }
-        ensures frames { P.frames plant.new ≡ P.frames plant.old }
-        ensures price { P.price plant.new ≡ P.price plant.old }
-        ensures keeps { P.keeps plant.old plant.new }
-        ensures rises { P.spent plant.old ≤ P.spent plant.new }
-        ensures spent { P.spent plant.new ≤ P.spent plant.old + P.price plant.old }
+        ensures goes_on { GoesOn P.Plant plant.old plant.new }
         ensures agree { QuietAgree self.old (P.agrees plant.old)
             → QuietAgree self.new (P.agrees plant.new) }
-        ensures fired { OnOk result
-            (P.agrees plant.new (item_at self.old.plan.circuit frame local)) }
-        ensures taken { OnOk result
-            (¬ IsPending self.new (item_at self.old.plan.circuit frame local)) }
-        ensures only { OnOk result ((x : ℕ) → x < core_items self.old → IsPending self.new x
-            → IsPending self.old x ⊎ IsLoad self.old.plan.circuit self.old.plan.frames
-            (item_at self.old.plan.circuit frame local) x) }
+        ensures fired { OnOk result (IsFired P.Plant self.old
+            (item_at self.old.plan.circuit frame local) self.new plant.new) }
         ensures err { OnErr result (self.new ≡ self.old) }
     {
         let changed = plant.recompute(frame, local)?;

@@ -22,21 +22,21 @@ loop-position-preserved g c =
     let low = c.in-Some.ensures.from in
     record {
       plan = f.plan ∙ plan;
-      circuit = f.circuit ∙ i.circuit;
-      frames = f.frames ∙ i.frames;
-      keeps = g.met.P.Plant.transitive _ _ _ i.keeps f.keeps;
-      price = f.price ∙ i.price;
+      circuit = f.goes_on.circuit ∙ i.circuit;
+      frames = f.goes_on.frames ∙ i.frames;
+      keeps = g.met.P.Plant.transitive _ _ _ i.keeps f.goes_on.keeps;
+      price = f.goes_on.price ∙ i.price;
       inside =
           let l = subst (λ (p : PlanState). position < item_count p.circuit p.frames) i.plan c.in-Some.ensures.inside in
           omega (arith, l);
-      spent = spends _ _ _ _ _ c.loop-position.from _ i.spent (sym i.price) f.spent (omega (arith, low));
+      spent = spends _ _ _ _ _ c.loop-position.from _ i.spent (sym i.price) f.goes_on.spent (omega (arith, low));
       agree = λ agreed. f.agree (subst (λ (s : CoreState). QuietAgree s (g.P.Plant.agrees c.loop-position.plant))
           (sym same) (i.agree agreed));
       below = subst (λ (p : PlanState). (y : ℕ) → y < item_count p.circuit p.frames
           → position_at p y < position + 1 → ¬ IsPending c.fire_at.new.self y) plan
           (none_below s c.fire_at.new.self (item_at s.plan.circuit frame local) position stands
           (subst (λ (t : CoreState). (y : ℕ) → y < item_count t.plan.circuit t.plan.frames
-          → position_at t.plan y < position → ¬ IsPending t y) (sym same) c.in-Some.ensures.first) f.taken f.only);
+          → position_at t.plan y < position → ¬ IsPending t y) (sym same) c.in-Some.ensures.first) f.fired.taken f.fired.only);
     }
 
 pub returns-in_err-fire_at-clause-agree : goal.returns-in_err-fire_at-clause-agree
@@ -50,7 +50,7 @@ returns-in_err-fire_at-clause-spent g c =
     let low = c.in-Some.ensures.from in
     let high = subst (λ (p : PlanState). c.in-Some.position < item_count p.circuit p.frames) i.plan
     c.in-Some.ensures.inside in
-    spends _ _ _ _ _ c.loop-position.from _ i.spent (sym i.price) c.in_err-fire_at.ensures.spent
+    spends _ _ _ _ _ c.loop-position.from _ i.spent (sym i.price) c.in_err-fire_at.ensures.goes_on.spent
     (omega (arith, low, high))
 
 pub returns-clause-spent : goal.returns-clause-spent
