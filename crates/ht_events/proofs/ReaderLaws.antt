@@ -1,86 +1,13 @@
--- One more reader of a net.
-use Rattle.std.specs.Prelude.{set}
+-- The ranks of what reads each net, from the table of the items that read it.
 use Rattle.std.specs.List.{Contains}
-use Rattle.std.proofs.Common.{◌≡◌, ◌≢◌, ◌<◌, ◌+◌, ◌-◌, ◌∙◌, ◌⊎◌, ℕ, List, [], ◌∷◌, ◌++◌, length, get_or, replicate, ap, sym, subst, arith, inl, inr}
-use Rattle.std.proofs.lemmas.Bool.Decides.{eqb_tells}
+use Rattle.std.proofs.Common.{◌≡◌, ◌<◌, ◌≤◌, ◌+◌, ◌-◌, ◌∙◌, ℕ, List, [], ◌∷◌, ◌++◌, length, get_or, ap, sym, subst, arith, inl, inr}
 use Rattle.std.proofs.lemmas.Bool.{cases_lt}
-use Rattle.std.proofs.lemmas.List.{get_or-set_same, get_or-set_other, get_or-replicate, get_or_past, length-replicate}
+use Rattle.std.proofs.lemmas.List.{get_or_past, get_or_push, get_or_append_left, length_push}
 use Rattle.std.proofs.lemmas.List.Elements.{Contains-push, Contains-push_cases, Contains-append_left}
-use Rattle.ht_net.specs.Netlist.{Netlist, first_gate_net, net_count, gate_at, arg_at}
-use Rattle.ht_events.specs.Schedules.{ReadsFrom, AreReaders}
-
--- the rows where row n got one more item
-record HasMore (rows new : List (List ℕ)) (n q : ℕ) : Type 0 where
-  keeps : (x l : ℕ) → Contains (get_or rows x []) l → Contains (get_or new x []) l
-  has : Contains (get_or new n []) q
-  only : (x l : ℕ) → Contains (get_or new x []) l → Contains (get_or rows x []) l ⊎ ((x ≡ n) × (l ≡ q))
-
-row_pushed : (rows new : List (List ℕ)) (n q : ℕ) → n < length rows → new ≡ set rows n (get_or rows n [] ++ q ∷ [])
-    → HasMore rows new n q
-row_pushed rows new n q inside is =
-    let row : List ℕ = get_or rows n [] ++ q ∷ [] in
-    let here : get_or new n [] ≡ get_or rows n [] ++ q ∷ [] =
-    ap (λ (r : List (List ℕ)). get_or r n []) is ∙ get_or-set_same rows n row [] inside in
-    let there : (x : ℕ) → x ≢ n → get_or new x [] ≡ get_or rows x [] =
-    λ x ne. ap (λ (r : List (List ℕ)). get_or r x []) is ∙ get_or-set_other rows n x row [] ne in
-    record {
-      keeps = λ x l h. elim (eqb_tells x n) [
-        | inl p ↦
-            subst (λ (t : List ℕ). Contains t l) (sym here ∙ ap (λ (y : ℕ). get_or new y []) (sym p.1))
-            (Contains-append_left (get_or rows n []) (q ∷ []) l
-            (subst (λ (y : ℕ). Contains (get_or rows y []) l) p.1 h))
-        | inr p ↦ subst (λ (t : List ℕ). Contains t l) (sym (there x p.1)) h
-      ];
-      has = subst (λ (t : List ℕ). Contains t q) (sym here) (Contains-push (get_or rows n []) q);
-      only = λ x l h. elim (eqb_tells x n) [
-        | inl p ↦ elim (Contains-push_cases (get_or rows n []) q l
-            (subst (λ (t : List ℕ). Contains t l) (ap (λ (y : ℕ). get_or new y []) p.1 ∙ here) h)) [
-              | inl old ↦ inl (subst (λ (y : ℕ). Contains (get_or rows y []) l) (sym p.1) old)
-              | inr e ↦ inr (p.1, sym e)
-            ]
-        | inr p ↦ inl (subst (λ (t : List ℕ). Contains t l) (there x p.1) h)
-      ];
-    }
-
--- rows that have the first g gates
-pub record ArePartReaders (c : Netlist) (ranks : List ℕ) (rows : List (List ℕ)) (g : ℕ) : Type 0 where
-  pub count : length rows ≡ net_count c
-  pub complete : (y x : ℕ) → y < first_gate_net c + g → ReadsFrom c y x
-      → Contains (get_or rows x []) (get_or ranks y 0)
-  pub later : (x r : ℕ) → Contains (get_or rows x []) r → get_or ranks x 0 < r
-  pub within : (x r : ℕ) → Contains (get_or rows x []) r → r < net_count c
-
--- the first i pins of gate g are there
-abbrev pub HavePins : Netlist → List ℕ → List (List ℕ) → ℕ → ℕ → Type 0
-HavePins c ranks rows g i = (j : ℕ) → j < i
-    → Contains (get_or rows (arg_at c g j) []) (get_or ranks (first_gate_net c + g) 0)
-
-abbrev none : List ℕ
-none = []
-
-empty_row : (n x : ℕ) → get_or (replicate n none) x none ≡ none
-empty_row n x = elim (cases_lt x n) [
-  | inl inside ↦ get_or-replicate n x none none inside
-  | inr past ↦ get_or_past (replicate n none) x none (let e = length-replicate n none in omega (arith, past, e))
-]
-
-none_empty : {P : Type 0} → (row : List ℕ) (r : ℕ) → row ≡ [] → Contains row r → P
-none_empty row r is h =
-    let e : length row ≡ 0 = ap (λ (l : List ℕ). length l) is in
-    absurd (let less = h.1 in omega (arith, less, e))
-
-pub no_readers : (c : Netlist) (ranks : List ℕ) (rows : List (List ℕ)) → rows ≡ replicate (net_count c) none
-    → ArePartReaders c ranks rows 0
-no_readers c ranks rows is =
-    let row : (x : ℕ) → get_or rows x [] ≡ [] = λ x. ap (λ (r : List (List ℕ)). get_or r x []) is
-    ∙ empty_row (net_count c) x
-    in
-    record {
-      count = ap (λ (r : List (List ℕ)). length r) is ∙ length-replicate (net_count c) none;
-      complete = λ y x below reads. let h = reads.is_gate in absurd (omega (arith, below, h));
-      later = λ x r h. none_empty (get_or rows x []) r (row x) h;
-      within = λ x r h. none_empty (get_or rows x []) r (row x) h;
-    }
+use Rattle.ht_net.specs.Netlist.{Netlist, IsCircuit, first_gate_net, net_count, gate_at, arg_at}
+use Rattle.ht_events.specs.Items.{IsGateOn, driven_net}
+use Rattle.ht_events.specs.FramePlans.{IsTable}
+use Rattle.ht_events.specs.Schedules.{AreGateRanks, AreReaders, ReadsFrom}
 
 -- a gate's net reads from the net at each of its pins
 pub reads_pin : (c : Netlist) (g i n : ℕ) → g < length c.gates → i < length (gate_at c g).args → n ≡ arg_at c g i
@@ -95,65 +22,148 @@ reads_pin c g i n inside pin net =
       reads = ap (λ (h : ℕ). arg_at c h i) (sym at) ∙ sym net;
     }
 
--- one pin more
-pub pin_added : (c : Netlist) (ranks : List ℕ) (rows new : List (List ℕ)) (g i n q : ℕ) → n < length rows
-    → new ≡ set rows n (get_or rows n [] ++ q ∷ []) → length new ≡ length rows
-    → n ≡ arg_at c g i → q ≡ get_or ranks (first_gate_net c + g) 0 → get_or ranks n 0 < q → q < net_count c
-    → ArePartReaders c ranks rows g → HavePins c ranks rows g i
-    → ArePartReaders c ranks new g × HavePins c ranks new g (i + 1)
-pin_added c ranks rows new g i n q inside is same net rank rises small part pins =
-    let more = row_pushed rows new n q inside is in (
-      record {
-        count = same ∙ part.count;
-        complete = λ y x below reads. more.keeps x (get_or ranks y 0) (part.complete y x below reads);
-        later = λ x r h. elim (more.only x r h) [
-          | inl old ↦ part.later x r old
-          | inr e ↦
-              let at = ap (λ (y : ℕ). get_or ranks y 0) e.0 in
-              let is_q = e.1 in
-              omega (arith, at, is_q, rises)
-        ];
-        within = λ x r h. elim (more.only x r h) [
-          | inl old ↦ part.within x r old
-          | inr e ↦ let is_q = e.1 in omega (arith, is_q, small)
-        ];
-      },
-      λ j below. elim (eqb_tells j i) [
-        | inl p ↦
-            let at : n ≡ arg_at c g j = net ∙ ap (arg_at c g) (sym p.1) in
-            subst (λ (y : ℕ). Contains (get_or new y []) (get_or ranks (first_gate_net c + g) 0)) at
-            (subst (λ (l : ℕ). Contains (get_or new n []) l) rank more.has)
-        | inr p ↦ let ne : j ≢ i = p.1 in more.keeps (arg_at c g j) (get_or ranks (first_gate_net c + g) 0)
-            (pins j (omega (arith, below, ne)))
-      ],
-    )
+-- the net that a gate drives reads from those that the gate does
+gate_reads_from : (c : Netlist) (l x : ℕ) → IsGateOn c l x → ReadsFrom c (driven_net c l) x
+gate_reads_from c l x on =
+    let is = on.is_gate in
+    let at : first_gate_net c + (l - length c.dffs) ≡ driven_net c l = omega (arith, is) in
+    subst (λ (y : ℕ). ReadsFrom c y x) at
+    (reads_pin c (l - length c.dffs) on.pin x (omega (arith, is, on.known)) on.is_pin (sym on.reads))
 
--- one gate more, all of whose pins are there
-pub gate_done : (c : Netlist) (ranks : List ℕ) (rows : List (List ℕ)) (g n : ℕ) → n ≡ length (gate_at c g).args
-    → ArePartReaders c ranks rows g → HavePins c ranks rows g n → ArePartReaders c ranks rows (g + 1)
-gate_done c ranks rows g n all part pins = record {
-  count = part.count;
-  later = part.later;
-  within = part.within;
-  complete = λ y x below reads. elim (eqb_tells y (first_gate_net c + g)) [
-    | inl p ↦
-        let is : y ≡ first_gate_net c + g = p.1 in
-        let at : y - first_gate_net c ≡ g = omega (arith, is) in
-        let inside : reads.pin < n = (let h = reads.is_pin in let e = ap (λ (h : ℕ). length (gate_at c h).args) at
-        in omega (arith, h, e, all)) in
-        let net : arg_at c g reads.pin ≡ x = ap (λ (h : ℕ). arg_at c h reads.pin) (sym at) ∙ reads.reads in
-        subst (λ (z : ℕ). Contains (get_or rows z []) (get_or ranks y 0)) net
-        (subst (λ (z : ℕ). Contains (get_or rows (arg_at c g reads.pin) []) (get_or ranks z 0)) (sym is)
-        (pins reads.pin inside))
-    | inr p ↦ let ne : y ≢ first_gate_net c + g = p.1 in part.complete y x (omega (arith, below, ne)) reads
-  ];
+-- what drives a net that reads from another is a gate on that one
+gate_on : (c : Netlist) (y x : ℕ) → ReadsFrom c y x → IsGateOn c (y - c.inputs) x
+gate_on c y x reads =
+    let gate = reads.is_gate in
+    let at : y - first_gate_net c ≡ y - c.inputs - length c.dffs = omega arith in
+    record {
+      pin = reads.pin;
+      is_gate = omega (arith, gate);
+      known = omega (arith, gate, reads.known);
+      is_pin = subst (λ (g : ℕ). reads.pin < length (gate_at c g).args) at reads.is_pin;
+      reads = ap (λ (g : ℕ). arg_at c g reads.pin) (sym at) ∙ reads.reads;
+    }
+
+no_items : (xs : List ℕ) (x : ℕ) → xs ≡ [] → ¬ Contains xs x
+no_items xs x is h =
+    let none = ap (λ (l : List ℕ). length l) is in
+    let less = h.1 in
+    omega (arith, none, less)
+
+module _ (c : Netlist) (ranks items row : List ℕ) where
+  pub no_ranks : items ≡ [] → row ≡ [] → AreGateRanks c ranks items row
+  no_ranks none is = record {
+    complete = λ l h gate. absurd (no_items items l none h);
+    sound = λ r h. absurd (no_items row r is h);
+  }
+
+  module _ (h : AreGateRanks c ranks items row) (l : ℕ) where
+    kept : (new : List ℕ) → ((r : ℕ) → Contains row r → Contains new r)
+        → (length c.dffs ≤ l → Contains new (get_or ranks (driven_net c l) 0))
+        → (k : ℕ) → Contains (items ++ l ∷ []) k → length c.dffs ≤ k → Contains new (get_or ranks (driven_net c k) 0)
+    kept new keeps has k there gate = elim (Contains-push_cases items l k there) [
+      | inl old ↦ keeps (get_or ranks (driven_net c k) 0) (h.complete k old gate)
+      | inr is ↦ subst (λ (m : ℕ). Contains new (get_or ranks (driven_net c m) 0)) is
+          (has (omega (arith, is, gate)))
+    ]
+
+    old_item : (r : ℕ) → Contains row r → (k : ℕ) × Contains (items ++ l ∷ []) k × (length c.dffs ≤ k)
+        × (r ≡ get_or ranks (driven_net c k) 0)
+    old_item r there =
+        let found = h.sound r there in
+        (found.0, Contains-append_left items (l ∷ []) found.0 found.1, found.2, found.3)
+
+    -- one item more, which is a flip-flop
+    pub rank_passed : l < length c.dffs → AreGateRanks c ranks (items ++ l ∷ []) row
+    rank_passed dff = record {
+      complete = kept row (λ r there. there) (λ gate. absurd (omega (arith, dff, gate)));
+      sound = old_item;
+    }
+
+    -- one item more, which is a gate
+    pub rank_pushed : (n : ℕ) → n ≡ get_or ranks (driven_net c l) 0 → length c.dffs ≤ l
+        → AreGateRanks c ranks (items ++ l ∷ []) (row ++ n ∷ [])
+    rank_pushed n is gate = record {
+      complete = kept (row ++ n ∷ []) (Contains-append_left row (n ∷ []))
+          (λ again. subst (λ (r : ℕ). Contains (row ++ n ∷ []) r) is (Contains-push row n));
+      sound = λ r there. elim (Contains-push_cases row n r there) [
+        | inl old ↦ old_item r old
+        | inr e ↦ (l, Contains-push items l, gate, sym e ∙ is)
+      ];
+    }
+
+-- a net's row, with the ranks of the nets that read from it
+pub record IsRankRow (c : Netlist) (ranks : List ℕ) (x : ℕ) (row : List ℕ) : Type 0 where
+  pub complete : (y : ℕ) → ReadsFrom c y x → Contains row (get_or ranks y 0)
+  pub sound : (r : ℕ) → Contains row r → (y : ℕ) × ReadsFrom c y x × (r ≡ get_or ranks y 0)
+
+rank_row : (c : Netlist) (ranks : List ℕ) (table : List (List ℕ)) (x : ℕ) (row : List ℕ) → IsTable c table
+    → AreGateRanks c ranks (get_or table x []) row → IsRankRow c ranks x row
+rank_row c ranks table x row is h = record {
+  complete = λ y reads.
+      let l = y - c.inputs in
+      let on = gate_on c y x reads in
+      let gate = reads.is_gate in
+      let at : driven_net c l ≡ y = omega (arith, gate) in
+      subst (λ (m : ℕ). Contains row (get_or ranks m 0)) at (h.complete l (is.complete x l (inl on)) on.is_gate);
+  sound = λ r there.
+      let found = h.sound r there in
+      let l = found.0 in
+      let gate = found.2 in
+      elim (is.sound x l found.1) [
+        | inl on ↦ (driven_net c l, gate_reads_from c l x on, found.3)
+        | inr d ↦ let dff = d.is_dff in absurd (omega (arith, gate, dff))
+      ];
 }
 
-pub readers_are : (c : Netlist) (ranks : List ℕ) (rows : List (List ℕ)) (g : ℕ) → g ≡ length c.gates
-    → ArePartReaders c ranks rows g → AreReaders c ranks rows
-readers_are c ranks rows g all part = record {
-  count = part.count;
-  complete = λ y x reads. let known = reads.known in part.complete y x (omega (arith, known, all)) reads;
-  later = part.later;
-  within = part.within;
-}
+-- the rows of the first n nets
+pub record HasRankRows (c : Netlist) (ranks : List ℕ) (readers : List (List ℕ)) (n : ℕ) : Type 0 where
+  pub count : length readers ≡ n
+  pub rows : (x : ℕ) → x < n → IsRankRow c ranks x (get_or readers x [])
+
+pub row_more : (c : Netlist) (ranks : List ℕ) (table readers new : List (List ℕ)) (n : ℕ) (row : List ℕ)
+    → IsTable c table → AreGateRanks c ranks (get_or table n []) row → new ≡ readers ++ row ∷ []
+    → HasRankRows c ranks readers n → HasRankRows c ranks new (n + 1)
+row_more c ranks table readers new n row is gates more h =
+    let count = h.count in
+    subst (λ (rows : List (List ℕ)). HasRankRows c ranks rows (n + 1)) (sym more) (record {
+      count = (let l = length_push readers row in omega (arith, l, count));
+      rows = λ x less. elim (cases_lt x n) [
+        | inl before ↦ subst (IsRankRow c ranks x)
+            (sym (get_or_append_left readers (row ∷ []) [] x (omega (arith, before, count)))) (h.rows x before)
+        | inr past ↦
+            let at : n ≡ x = omega (arith, less, past) in
+            subst (IsRankRow c ranks x) (sym (get_or_push readers row [] x (count ∙ at)))
+            (subst (λ (y : ℕ). IsRankRow c ranks y row) at (rank_row c ranks table n row is gates))
+      ];
+    })
+
+module _ (c : Netlist) (valid : IsCircuit c) (ranks : List ℕ) (readers : List (List ℕ))
+    (h : HasRankRows c ranks readers (net_count c)) where
+  net_known : (y x : ℕ) → ReadsFrom c y x → x < net_count c
+  net_known y x reads =
+      let gate = reads.is_gate in
+      let known = valid.known (y - first_gate_net c) reads.pin (omega (arith, gate, reads.known)) reads.is_pin in
+      omega (arith, known, reads.reads)
+
+  reader_is : (x r : ℕ) → Contains (get_or readers x []) r → (y : ℕ) × ReadsFrom c y x × (r ≡ get_or ranks y 0)
+  reader_is x r there = elim (cases_lt x (net_count c)) [
+    | inl inside ↦ (h.rows x inside).sound r there
+    | inr past ↦
+        let count = h.count in
+        absurd (no_items (get_or readers x []) r (get_or_past readers x [] (omega (arith, past, count))) there)
+  ]
+
+  pub readers_are : ((x : ℕ) → x < net_count c → get_or ranks x 0 < net_count c)
+      → ((y x : ℕ) → ReadsFrom c y x → get_or ranks x 0 < get_or ranks y 0) → AreReaders c ranks readers
+  readers_are small rises = record {
+    count = h.count;
+    complete = λ y x reads. (h.rows x (net_known y x reads)).complete y reads;
+    later = λ x r there.
+        let found = reader_is x r there in
+        let less = rises found.0 x found.1 in
+        omega (arith, less, found.2);
+    within = λ x r there.
+        let found = reader_is x r there in
+        let less = small found.0 found.1.known in
+        omega (arith, less, found.2);
+  }

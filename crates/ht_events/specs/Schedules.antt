@@ -3,6 +3,7 @@ use Rattle.std.specs.Prelude.{◌≡◌, ◌<◌, ◌≤◌, ◌-◌, ℕ, List,
 use Rattle.std.specs.List.{Contains}
 use Rattle.ht_net.specs.Netlist.{Netlist, first_gate_net, net_count, gate_at, arg_at, IsCircuit}
 use Rattle.ht_events.specs.Ranks.{AreRanked}
+use Rattle.ht_events.specs.Items.{driven_net}
 use Rattle.ht_events.specs.declared.schedule.Schedule.{Schedule}
 
 -- net y is driven by a gate that reads net x
@@ -12,6 +13,12 @@ pub record ReadsFrom (c : Netlist) (y x : ℕ) : Type 0 where
   pub known : y < net_count c
   pub is_pin : pin < length (gate_at c (y - first_gate_net c)).args
   pub reads : arg_at c (y - first_gate_net c) pin ≡ x
+
+-- the ranks of the nets that the gates among these items of a frame drive
+pub record AreGateRanks (c : Netlist) (ranks items row : List ℕ) : Type 0 where
+  pub complete : (l : ℕ) → Contains items l → length c.dffs ≤ l → Contains row (get_or ranks (driven_net c l) 0)
+  pub sound : (r : ℕ) → Contains row r → (l : ℕ) × Contains items l × (length c.dffs ≤ l)
+      × (r ≡ get_or ranks (driven_net c l) 0)
 
 -- for each net the ranks of the nets whose gates read it
 pub record AreReaders (c : Netlist) (ranks : List ℕ) (readers : List (List ℕ)) : Type 0 where

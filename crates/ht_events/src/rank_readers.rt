@@ -1,67 +1,37 @@
-//! What reads each net.
-ghost use Rattle.std.specs.Prelude.{◌≡◌, ◌<◌, ◌++◌, ◌∷◌, [], ℕ, length, get_or, replicate, set, IfOk, OnOk};
+//! The ranks of what reads each net.
+ghost use Rattle.std.specs.Prelude.{◌≡◌, ◌<◌, ℕ, length, get_or, IfOk};
+ghost use Rattle.std.specs.List.{Contains};
 ghost use Rattle.ht_net.specs.Netlist.{net_count};
-ghost use Rattle.ht_events.specs.Schedules.{AreReaders, ReadsFrom};
+ghost use Rattle.ht_events.specs.Items.{frame_items};
+ghost use Rattle.ht_events.specs.Schedules.{AreGateRanks, AreReaders, ReadsFrom};
 
-use ht_items::{FlatRows, Items};
-use ht_net::Circuit;
+use crate::readers::Readers;
+use ht_items::FlatRows;
+use ht_net::{Circuit, NetId};
 use std::alloc::{AllocError, Global};
 
-// An empty row for each net.
-fn empty_rows(alloc: Global, nets: u32) -> Result<Vec<Items<u32>>, AllocError>
-    ensures { IfOk result (λ rows. rows.items ≡ replicate nets []) }
-{
-    let mut rows = Vec::new(alloc);
-    for net in 0..nets {
-        let _ = net;
-        rows.push(Items::new(alloc))?;
-    }
-    Ok(rows)
-}
-
-// One more reader of a net.
-fn add_reader(rows: &mut Vec<Items<u32>>, net: usize, rank: u32) -> Result<(), AllocError>
-    requires { net < length rows.old.items }
-    ensures ok { OnOk result (rows.new.items ≡ set rows.old.items net
-        (get_or rows.old.items net [] ++ rank ∷ [])) }
-    ensures count { length rows.new.items ≡ length rows.old.items }
-{
-    rows[net].push(rank)?;
-    Ok(())
-}
-
-// For each net the ranks of the nets whose gates read it, row by row.
-fn reader_rows(
+// The ranks of the nets that the gates among these items of a frame drive.
+fn gate_ranks(
     alloc: Global,
     circuit: &Circuit,
     ranks: &[u32],
-) -> Result<Vec<Items<u32>>, AllocError>
+    items: &[u32],
+) -> Result<Vec<u32>, AllocError>
     requires count { length ranks.now ≡ net_count circuit.now }
-    requires small { (x : ℕ) → x < net_count circuit.now
-        → get_or ranks.now x 0 < net_count circuit.now }
-    requires rises { (y x : ℕ) → ReadsFrom circuit.now y x
-        → get_or ranks.now x 0 < get_or ranks.now y 0 }
-    ensures { IfOk result (λ rows. AreReaders circuit.now ranks.now rows.items) }
+    requires known { (l : ℕ) → Contains items.now l → l < frame_items circuit.now }
+    ensures { IfOk result (λ row. AreGateRanks circuit.now ranks.now items.now row.items) }
 {
-    let mut rows = empty_rows(alloc, circuit.nets())?;
-    for g in 0..circuit.gates() {
-        let rank = ranks[circuit.gate_net(g).index()];
-        for arg in circuit.gate_args(g) {
-            add_reader(&mut rows, arg.index(), rank)?;
+    // for the proof: the circuit is well formed
+    let _ = circuit.nets();
+    let inputs = circuit.inputs();
+    let dffs = circuit.dffs();
+    let mut row = Vec::new(alloc);
+    for item in items {
+        if *item >= dffs {
+            row.push(ranks[(inputs + *item) as usize])?;
         }
     }
-    Ok(rows)
-}
-
-// The same rows in one.
-fn flattened(alloc: Global, rows: &[Items<u32>]) -> Result<FlatRows<u32>, AllocError>
-    ensures { IfOk result (λ flat. flat ≡ rows.now) }
-{
-    let mut flat = FlatRows::new(alloc);
-    for row in rows {
-        flat.push(row.as_slice())?;
-    }
-    Ok(flat)
+    Ok(row)
 }
 
 /// For each net, by its number, the ranks of the nets whose gates read it. A gate that reads the net at two pins stands
@@ -77,7 +47,11 @@ pub fn readers(alloc: Global, circuit: &Circuit, ranks: &[u32]) -> Result<FlatRo
         → get_or ranks.now x 0 < get_or ranks.now y 0 }
     ensures { IfOk result (λ readers. AreReaders circuit.now ranks.now readers) }
 {
-    let rows = reader_rows(alloc, circuit, ranks)?;
-    let flat = flattened(alloc, &rows)?;
-    Ok(flat)
+    let table = Readers::new(alloc, circuit)?;
+    let mut readers = FlatRows::new(alloc);
+    for net in 0..circuit.nets() {
+        let row = gate_ranks(alloc, circuit, ranks, table.row(NetId(net)))?;
+        readers.push(&row)?;
+    }
+    Ok(readers)
 }
