@@ -43,6 +43,12 @@ few_still items i local more e few =
     let long = length-set items i local in
     omega (arith, same, long, few)
 
+-- the readers once net n has one more
+pub record IsMore (Has New : ℕ → ℕ → Type 0) (n local : ℕ) : Type 0 where
+  pub keeps : (x l : ℕ) → Has x l → New x l
+  pub has : New n local
+  pub only : (x l : ℕ) → New x l → Has x l ⊎ ((x ≡ n) × (l ≡ local))
+
 module _ (rows : List NetRow) (items : List ℕ) (n local : ℕ) (inside : n < length rows) (room : ℕ → ℕ)
     (h : HasRowRoom rows items room) (some : 0 < room n) where
   abbrev more_rows : List NetRow
@@ -94,7 +100,7 @@ module _ (rows : List NetRow) (items : List ℕ) (n local : ℕ) (inside : n < l
   pub room_there : (row_of rows n).end < length items
   room_there = let w = h.within n inside in omega (arith, w, some)
 
-  pub reader_has : HasReader more_rows more_items n local
+  reader_has : HasReader more_rows more_items n local
   reader_has = record {
     place = (row_of rows n).end;
     from_on = (let s = this_start in let r = h.rises n in omega (arith, s, r));
@@ -118,7 +124,7 @@ module _ (rows : List NetRow) (items : List ℕ) (n local : ℕ) (inside : n < l
     at = unwritten r.place (elsewhere x r.place ne r.from_on r.below) ∙ r.at;
   }
 
-  pub reader_keeps : (x l : ℕ) → HasReader rows items x l → HasReader more_rows more_items x l
+  reader_keeps : (x l : ℕ) → HasReader rows items x l → HasReader more_rows more_items x l
   reader_keeps x l r = elim (eqb_tells x n) [
     | inl p ↦ subst (λ (y : ℕ). HasReader more_rows more_items y l) (sym p.1)
         (kept_here l (subst (λ (y : ℕ). HasReader rows items y l) p.1 r))
@@ -148,7 +154,7 @@ module _ (rows : List NetRow) (items : List ℕ) (n local : ℕ) (inside : n < l
         at = sym (unwritten r.place (elsewhere x r.place ne from below)) ∙ r.at;
       }
 
-  pub reader_only : (x l : ℕ) → HasReader more_rows more_items x l
+  reader_only : (x l : ℕ) → HasReader more_rows more_items x l
       → HasReader rows items x l ⊎ ((x ≡ n) × (l ≡ local))
   reader_only x l r = elim (eqb_tells x n) [
     | inl p ↦ elim (only_here l (subst (λ (y : ℕ). HasReader more_rows more_items y l) p.1 r)) [
@@ -157,6 +163,9 @@ module _ (rows : List NetRow) (items : List ℕ) (n local : ℕ) (inside : n < l
     ]
     | inr p ↦ inl (only_there x l p.1 r)
   ]
+
+  pub reader_more : IsMore (HasReader rows items) (HasReader more_rows more_items) n local
+  reader_more = record { keeps = reader_keeps; has = reader_has; only = reader_only }
 
   starts : (x : ℕ) → (row_of more_rows x).start ≡ (row_of rows x).start
   starts x = elim (eqb_tells x n) [

@@ -1,5 +1,5 @@
 -- The table of readers, as the flip-flops and then the gates are added pin by pin.
-use Rattle.std.proofs.Common.{◌≡◌, ◌≢◌, ◌<◌, ◌≤◌, ◌+◌, ◌-◌, ◌⊎◌, inl, inr, ℕ, Bool, List, [], length, get_or, drop, cond, eqb, refl, sym, ◌∙◌, ap, arith, subst}
+use Rattle.std.proofs.Common.{◌≡◌, ◌≢◌, ◌<◌, ◌≤◌, ◌+◌, ◌-◌, inl, inr, ℕ, Bool, List, [], length, get_or, drop, cond, eqb, refl, sym, ◌∙◌, ap, arith, subst}
 use Rattle.std.specs.List.{Contains, sum_by}
 use Rattle.std.proofs.lemmas.Bool.{cases_lt, eq-eqb}
 use Rattle.std.proofs.lemmas.Bool.Decides.{eqb_tells}
@@ -12,7 +12,7 @@ use Rattle.ht_events.specs.declared.readers.NetRow.{NetRow}
 use Rattle.ht_events.specs.Items.{IsDffOn, IsGateOn, ReadsNet}
 use Rattle.ht_events.specs.NetRows.{no_row, row_of, readers_in, lists_of, AreNetRows}
 use Rattle.ht_events.specs.FramePlans.{IsTable}
-use Rattle.ht_events.proofs.RowLaws.{HasReader, HasRowRoom, rows_with, items_with, room_there, reader_has, reader_keeps, reader_only, room_left}
+use Rattle.ht_events.proofs.RowLaws.{HasReader, HasRowRoom, IsMore, rows_with, items_with, room_kept, room_there, reader_more, room_left}
 
 -- how often the gates from g on read net x
 abbrev pub reads_from : Netlist → ℕ → ℕ → ℕ
@@ -30,7 +30,7 @@ one_read nets i x inside is =
     let one = ap (λ (b : Bool). cond {A = ℕ} b 1 0) (eq-eqb (get_or nets i no_net).0 x is) in
     omega (arith, e, one)
 
-pub gate_reads : (c : Netlist) (g x : ℕ) → g < length c.gates
+gate_reads : (c : Netlist) (g x : ℕ) → g < length c.gates
     → reads_from c g x ≡ times x (gate_at c g).args + reads_from c (g + 1) x
 gate_reads c g x inside = sum_by-drop_more (λ (gate : Gate). times x gate.args) c.gates g no_gate inside
 
@@ -44,12 +44,9 @@ pub record IsPartTable (c : Netlist) (Has : ℕ → ℕ → Type 0) (g : ℕ) : 
   pub dffs : (x k : ℕ) → IsDffOn c k x → Has x k
   pub gates : (x k : ℕ) → k < length c.dffs + g → IsGateOn c k x → Has x k
 
-module _ (c : Netlist) (Has New : ℕ → ℕ → Type 0) (n local : ℕ)
-    (keeps : (x l : ℕ) → Has x l → New x l)
-    (has : New n local)
-    (only : (x l : ℕ) → New x l → Has x l ⊎ ((x ≡ n) × (l ≡ local))) where
+module _ (c : Netlist) (Has New : ℕ → ℕ → Type 0) (n local : ℕ) (more : IsMore Has New n local) where
   pub sound_more : ReadsNet c local n → IsSound c Has → IsSound c New
-  sound_more reads sound x k h = elim (only x k h) [
+  sound_more reads sound x k h = elim (more.only x k h) [
     | inl old ↦ sound x k old
     | inr e ↦ subst (λ (y : ℕ). ReadsNet c k y) (sym e.0) (subst (λ (l : ℕ). ReadsNet c l n) (sym e.1) reads)
   ]
@@ -59,8 +56,8 @@ module _ (c : Netlist) (Has New : ℕ → ℕ → Type 0) (n local : ℕ)
   dffs_more reads dffs x k less d = elim (eqb_tells k local) [
     | inl p ↦
         let at : n ≡ x = sym reads ∙ (ap (λ (l : ℕ). (get_or c.dffs l no_net).0) (sym p.1) ∙ d.reads) in
-        subst (λ (y : ℕ). New y k) at (subst (λ (l : ℕ). New n l) (sym p.1) has)
-    | inr p ↦ let ne : k ≢ local = p.1 in keeps x k (dffs x k (omega (arith, less, ne)) d)
+        subst (λ (y : ℕ). New y k) at (subst (λ (l : ℕ). New n l) (sym p.1) more.has)
+    | inr p ↦ let ne : k ≢ local = p.1 in more.keeps x k (dffs x k (omega (arith, less, ne)) d)
   ]
 
   pub pins_more : (g i : ℕ) → local ≡ length c.dffs + g → arg_at c g i ≡ n
@@ -69,15 +66,15 @@ module _ (c : Netlist) (Has New : ℕ → ℕ → Type 0) (n local : ℕ)
   pins_more g i is reads pins j less = elim (eqb_tells j i) [
     | inl p ↦
         let at : n ≡ arg_at c g j = sym reads ∙ ap (arg_at c g) (sym p.1) in
-        subst (λ (y : ℕ). New y (length c.dffs + g)) at (subst (λ (l : ℕ). New n l) is has)
-    | inr p ↦ let ne : j ≢ i = p.1 in keeps (arg_at c g j) (length c.dffs + g) (pins j (omega (arith, less, ne)))
+        subst (λ (y : ℕ). New y (length c.dffs + g)) at (subst (λ (l : ℕ). New n l) is more.has)
+    | inr p ↦ let ne : j ≢ i = p.1 in more.keeps (arg_at c g j) (length c.dffs + g) (pins j (omega (arith, less, ne)))
   ]
 
   pub part_kept : (g : ℕ) → ReadsNet c local n → IsPartTable c Has g → IsPartTable c New g
   part_kept g reads t = record {
     sound = sound_more reads t.sound;
-    dffs = λ x k d. keeps x k (t.dffs x k d);
-    gates = λ x k less on. keeps x k (t.gates x k less on);
+    dffs = λ x k d. more.keeps x k (t.dffs x k d);
+    gates = λ x k less on. more.keeps x k (t.gates x k less on);
   }
 
 -- all pins of a gate are there
@@ -97,7 +94,7 @@ gates_more c Has g n all pins gates x k less on = elim (eqb_tells k (length c.df
   | inr p ↦ let ne : k ≢ length c.dffs + g = p.1 in gates x k (omega (arith, less, ne)) on
 ]
 
-pub part_more : (c : Netlist) (Has : ℕ → ℕ → Type 0) (g n : ℕ) → n ≡ length (gate_at c g).args
+part_more : (c : Netlist) (Has : ℕ → ℕ → Type 0) (g n : ℕ) → n ≡ length (gate_at c g).args
     → ((j : ℕ) → j < n → Has (arg_at c g j) (length c.dffs + g))
     → IsPartTable c Has g → IsPartTable c Has (g + 1)
 part_more c Has g n all pins t = record {
@@ -126,6 +123,37 @@ pub record HasPins (c : Netlist) (rows : List NetRow) (items : List ℕ) (g i : 
   pub table : IsPartTable c (HasReader rows items) g
   pub pins : (j : ℕ) → j < i → HasReader rows items (arg_at c g j) (length c.dffs + g)
 
+module _ (c : Netlist) (rows : List NetRow) (items : List ℕ) where
+  pub all_dffs : (j : ℕ) → length c.dffs ≤ j → HasDffs c rows items j → HasGates c rows items 0
+  all_dffs j all h = record {
+    count = h.count;
+    room = room_kept rows items (λ x. times x (drop j c.dffs) + reads_from c 0 x) (reads_from c 0) (λ x. omega arith)
+        h.room;
+    table = record {
+      sound = h.sound;
+      dffs = λ x k d. let is = d.is_dff in h.dffs x k (omega (arith, is, all)) d;
+      gates = λ x k less on. let is = on.is_gate in absurd (omega (arith, less, is));
+    };
+  }
+
+  pub no_pins : (g : ℕ) → g < length c.gates → HasGates c rows items g → HasPins c rows items g 0
+  no_pins g known h = record {
+    count = h.count;
+    room = room_kept rows items (reads_from c g)
+        (λ x. times x (drop 0 (gate_at c g).args) + reads_from c (g + 1) x)
+        (λ x. let r = gate_reads c g x known in omega (arith, r)) h.room;
+    table = h.table;
+    pins = λ j less. absurd (omega (arith, less));
+  }
+
+  pub all_pins : (g i : ℕ) → i ≡ length (gate_at c g).args → HasPins c rows items g i → HasGates c rows items (g + 1)
+  all_pins g i all h = record {
+    count = h.count;
+    room = room_kept rows items (λ x. times x (drop i (gate_at c g).args) + reads_from c (g + 1) x)
+        (reads_from c (g + 1)) (λ x. omega arith) h.room;
+    table = part_more c (HasReader rows items) g i all h.pins h.table;
+  }
+
 module _ (c : Netlist) (valid : IsCircuit c) (rows : List NetRow) (items : List ℕ) (j n : ℕ)
     (known : j < length c.dffs) (is : (get_or c.dffs j no_net).0 ≡ n) (h : HasDffs c rows items j) where
   abbrev dff_left : ℕ → ℕ → ℕ
@@ -140,22 +168,16 @@ module _ (c : Netlist) (valid : IsCircuit c) (rows : List NetRow) (items : List 
   pub dff_room : (row_of rows n).end < length items
   dff_room = room_there rows items n j dff_row (dff_left j) h.room dff_some
 
-  abbrev DffHas : ℕ → ℕ → Type 0
-  DffHas = HasReader (rows_with rows n) (items_with rows items n j)
-
   pub with_dff : HasDffs c (rows_with rows n) (items_with rows items n j) (j + 1)
   with_dff =
-      let keeps = reader_keeps rows items n j dff_row (dff_left j) h.room dff_some in
-      let has = reader_has rows items n j dff_row (dff_left j) h.room dff_some in
-      let only = reader_only rows items n j dff_row (dff_left j) h.room dff_some in
+      let more = reader_more rows items n j dff_row (dff_left j) h.room dff_some in
       record {
         count = length-set rows n (record { start = (row_of rows n).start; end = (row_of rows n).end + 1 }) ∙ h.count;
         room = room_left rows items n j dff_row (dff_left j) h.room dff_some (dff_left (j + 1))
             (let o = one_read c.dffs j n known is in omega (arith, o))
             (λ x. let f = fewer_reads c.dffs j x known in omega (arith, f));
-        sound = sound_more c (HasReader rows items) DffHas n j keeps has only
-            (inr (record { is_dff = known; reads = is })) h.sound;
-        dffs = dffs_more c (HasReader rows items) DffHas n j keeps has only is h.dffs;
+        sound = sound_more c _ _ n j more (inr (record { is_dff = known; reads = is })) h.sound;
+        dffs = dffs_more c _ _ n j more is h.dffs;
       }
 
 module _ (c : Netlist) (valid : IsCircuit c) (rows : List NetRow) (items : List ℕ) (g i n : ℕ)
@@ -184,22 +206,17 @@ module _ (c : Netlist) (valid : IsCircuit c) (rows : List NetRow) (items : List 
         reads = ap (λ (h : ℕ). arg_at c h i) at ∙ is;
       })
 
-  abbrev PinHas : ℕ → ℕ → Type 0
-  PinHas = HasReader (rows_with rows n) (items_with rows items n (length c.dffs + g))
-
   pub with_pin : HasPins c (rows_with rows n) (items_with rows items n (length c.dffs + g)) g (i + 1)
   with_pin =
       let l = length c.dffs + g in
-      let keeps = reader_keeps rows items n l pin_row (pin_left i) h.room pin_some in
-      let has = reader_has rows items n l pin_row (pin_left i) h.room pin_some in
-      let only = reader_only rows items n l pin_row (pin_left i) h.room pin_some in
+      let more = reader_more rows items n l pin_row (pin_left i) h.room pin_some in
       record {
         count = length-set rows n (record { start = (row_of rows n).start; end = (row_of rows n).end + 1 }) ∙ h.count;
         room = room_left rows items n l pin_row (pin_left i) h.room pin_some (pin_left (i + 1))
             (let o = one_read (gate_at c g).args i n pin is in omega (arith, o))
             (λ x. let f = fewer_reads (gate_at c g).args i x pin in omega (arith, f));
-        table = part_kept c (HasReader rows items) PinHas n l keeps has only g reads_it h.table;
-        pins = pins_more c (HasReader rows items) PinHas n l keeps has only g i refl is h.pins;
+        table = part_kept c _ _ n l more g reads_it h.table;
+        pins = pins_more c _ _ n l more g i refl is h.pins;
       }
 
 -- the flat list as a table

@@ -1,11 +1,10 @@
-use Rattle.std.proofs.Common.{◌≡◌, ◌<◌, ◌+◌, ℕ, List, length, get_or, drop, sym, ap, arith, subst}
+use Rattle.std.proofs.Common.{◌≡◌, ◌<◌, ◌+◌, ℕ, List, length, get_or, sym, ap, arith, subst}
 use Rattle.ht_net.specs.declared.net.NetId.{NetId}
 use Rattle.ht_net.specs.Netlist.{no_net, arg_at, gate_at}
-use Rattle.ht_net.specs.Levels.{times}
 use Rattle.ht_events.specs.declared.readers.NetRow.{NetRow}
 use Rattle.ht_events.specs.NetRows.{row_of}
-use Rattle.ht_events.proofs.RowLaws.{HasReader, rows_with, items_with, few_still, room_kept}
-use Rattle.ht_events.proofs.TableLaws.{HasDffs, HasPins, IsPartTable, reads_from, gate_reads, dff_row, dff_room, with_dff, pin_row, pin_room, with_pin, part_more, table_is}
+use Rattle.ht_events.proofs.RowLaws.{HasReader, rows_with, items_with, few_still}
+use Rattle.ht_events.proofs.TableLaws.{HasDffs, HasPins, IsPartTable, all_dffs, no_pins, all_pins, dff_row, dff_room, with_dff, pin_row, pin_room, with_pin, table_is}
 use Rattle.ht_events.proofs.readers.Readers.new.Goals as goal
 
 pub loop-j-init : goal.loop-j-init
@@ -61,41 +60,22 @@ loop-j-preserved c =
 
 pub loop-g-init : goal.loop-g-init
 loop-g-init c =
-    let i = c.loop-j.invariant.rows in
     let t = c.loop-j-test.false in
     let e = c.dffs-dffs.ensures in
-    let circuit = c.args.circuit.now in
     record {
       few = c.loop-j.invariant.few;
-      rows = record {
-        count = i.count;
-        room = room_kept _ _ (λ x. times x (drop c.loop-j.j circuit.dffs) + reads_from circuit 0 x)
-            (reads_from circuit 0) (λ x. omega arith) i.room;
-        table = record {
-          sound = i.sound;
-          dffs = λ x k d. let h = d.is_dff in i.dffs x k (omega (arith, h, t, e)) d;
-          gates = λ x k less on. let h = on.is_gate in absurd (omega (arith, less, h));
-        };
-      };
+      rows = all_dffs c.args.circuit.now c.loop-j.rows.items c.loop-j.items.items c.loop-j.j (omega (arith, t, e))
+          c.loop-j.invariant.rows;
     }
 
 pub loop-arg-init : goal.loop-arg-init
 loop-arg-init c =
-    let i = c.loop-g.invariant.rows in
     let t = c.loop-g-test.true in
     let e = c.gates-g-end.ensures in
-    let circuit = c.args.circuit.now in
-    let g = c.loop-g.g in
     record {
       few = c.loop-g.invariant.few;
-      rows = record {
-        count = i.count;
-        room = room_kept _ _ (reads_from circuit g)
-            (λ x. times x (drop 0 (gate_at circuit g).args) + reads_from circuit (g + 1) x)
-            (λ x. let r = gate_reads circuit g x (omega (arith, t, e)) in omega (arith, r)) i.room;
-        table = i.table;
-        pins = λ j less. absurd (omega (arith, less));
-      };
+      rows = no_pins c.args.circuit.now c.loop-g.rows.items c.loop-g.items.items c.loop-g.g (omega (arith, t, e))
+          c.loop-g.invariant.rows;
     }
 
 -- the pin is there, and reads the net
@@ -151,22 +131,13 @@ loop-arg-preserved c =
 
 pub loop-g-preserved : goal.loop-g-preserved
 loop-g-preserved c =
-    let i = c.loop-arg.invariant.rows in
     let done = c.loop-arg-test.false in
     let end = c.loop-arg.auto.arg-index-end in
     let all = ap (λ (l : List NetId). length l) c.gate_args-arg-items.ensures.args in
-    let circuit = c.args.circuit.now in
-    let g = c.loop-g.g in
     record {
       few = c.loop-arg.invariant.few;
-      rows = record {
-        count = i.count;
-        room = room_kept _ _
-            (λ x. times x (drop c.loop-arg.arg-index (gate_at circuit g).args) + reads_from circuit (g + 1) x)
-            (reads_from circuit (g + 1)) (λ x. omega arith) i.room;
-        table = part_more circuit (HasReader c.loop-arg.rows.items c.loop-arg.items.items) g c.loop-arg.arg-index
-            (omega (arith, done, end, all)) i.pins i.table;
-      };
+      rows = all_pins c.args.circuit.now c.loop-arg.rows.items c.loop-arg.items.items c.loop-g.g
+          c.loop-arg.arg-index (omega (arith, done, end, all)) c.loop-arg.invariant.rows;
     }
 
 pub invariant_of-result : goal.invariant_of-result
