@@ -124,7 +124,7 @@ macro_rules! complemented_good {
 }
 
 // The parts of either argument of AND and of OR. Each half of a result is that half of one of the two members, and the
-// other member's may be moved to it.
+// other member's may be moved to it. Parts 0 and 1 of the one argument meet parts 1 and 0 of the other, and so 2 and 3.
 macro_rules! by_one_move {
     ($moved:ident $moved_good:ident $x:tt $one:tt $zero:tt) => {
         [
@@ -149,7 +149,8 @@ macro_rules! parts_of_or {
 }
 
 // Where a half of the first member is 0, the second member's passes; where it is 1, the second's complement does. Each
-// of two moves of the good halves comes after each of two moves of the faulty halves.
+// of two moves of the good halves comes after each of two moves of the faulty halves. The second argument has its moves
+// of the faulty halves in the other order, since parts meet crosswise.
 macro_rules! by_two_moves {
     ($zero_moved:ident $zero_good:ident $one_moved:ident $one_good:ident $x:tt $one:tt $zero:tt) => {
         [
