@@ -31,27 +31,28 @@ pub not_rows : (v : List Lanes) (a b : List ℕ) (i : ℕ) → i < 4 → AreFour
     → AreBitsOf (lane_operations.complement (word_at v i)) b a i
 not_rows v a b i h p = rw (p.each i h) (not_apart _ _ (p.apart i h), not_lanes _ _ (p.apart i h))
 
-pub and_rows : (v w : List Lanes) (a b c d : List ℕ) (i : ℕ) → i < 4 → AreFourRows v a b → AreFourRows w c d
-    → AreBitsOf (lane_operations.conjunction (word_at v i) (word_at w i)) (zip2 bit_or a c) (zip2 bit_and b d) i
-and_rows v w a b c d i h p q =
+-- an operation of two words whose rows each come from one row of either word
+rows_of_two : (op : Lanes → Lanes → Lanes) (f g : ℕ → ℕ → ℕ)
+    → ((a b c d : ℕ) → AreApart a b → AreApart c d → AreApart (f a c) (g b d))
+    → ((a b c d : ℕ) → AreApart a b → AreApart c d → lanes_of (f a c) (g b d) ≡ op (lanes_of a b) (lanes_of c d))
+    → (v w : List Lanes) (a b c d : List ℕ) (i : ℕ) → i < 4 → AreFourRows v a b → AreFourRows w c d
+    → AreBitsOf (op (word_at v i) (word_at w i)) (zip2 f a c) (zip2 g b d) i
+rows_of_two op f g apart lanes v w a b c d i h p q =
     rw (
-      at_both bit_or a c i p.zero_count q.zero_count h,
-      at_both bit_and b d i p.one_count q.one_count h,
+      at_both f a c i p.zero_count q.zero_count h,
+      at_both g b d i p.one_count q.one_count h,
       p.each i h,
       q.each i h,
     )
-    (and_apart _ _ _ _ (p.apart i h) (q.apart i h), and_lanes _ _ _ _ (p.apart i h) (q.apart i h))
+    (apart _ _ _ _ (p.apart i h) (q.apart i h), lanes _ _ _ _ (p.apart i h) (q.apart i h))
+
+pub and_rows : (v w : List Lanes) (a b c d : List ℕ) (i : ℕ) → i < 4 → AreFourRows v a b → AreFourRows w c d
+    → AreBitsOf (lane_operations.conjunction (word_at v i) (word_at w i)) (zip2 bit_or a c) (zip2 bit_and b d) i
+and_rows = rows_of_two lane_operations.conjunction bit_or bit_and and_apart and_lanes
 
 pub or_rows : (v w : List Lanes) (a b c d : List ℕ) (i : ℕ) → i < 4 → AreFourRows v a b → AreFourRows w c d
     → AreBitsOf (lane_operations.disjunction (word_at v i) (word_at w i)) (zip2 bit_and a c) (zip2 bit_or b d) i
-or_rows v w a b c d i h p q =
-    rw (
-      at_both bit_and a c i p.zero_count q.zero_count h,
-      at_both bit_or b d i p.one_count q.one_count h,
-      p.each i h,
-      q.each i h,
-    )
-    (or_apart _ _ _ _ (p.apart i h) (q.apart i h), or_lanes _ _ _ _ (p.apart i h) (q.apart i h))
+or_rows = rows_of_two lane_operations.disjunction bit_and bit_or or_apart or_lanes
 
 pub xor_rows : (v w : List Lanes) (a b c d : List ℕ) (i : ℕ) → i < 4 → AreFourRows v a b → AreFourRows w c d
     → AreBitsOf (lane_operations.parity (word_at v i) (word_at w i))

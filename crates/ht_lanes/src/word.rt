@@ -4,6 +4,7 @@ ghost use Rattle.ht_tern.specs.Opposite.{are_opposite};
 ghost use Rattle.ht_lanes.specs.Four.{AreEachApart, AreFourRows};
 ghost use Rattle.ht_items.specs.Bits.{is_set};
 ghost use Rattle.ht_lanes.specs.Lanes.{every_lane, lane, lane_operations, stuck_lanes, with_lane};
+ghost use Rattle.ht_lanes.specs.Rows.{AreApart, lanes_of};
 
 use ht_items::has_bit;
 use ht_tern::{GateOperations, Tern};
@@ -180,6 +181,15 @@ pub(crate) fn four_rows(four: &[Word; 4]) -> (u64x4, u64x4)
     )
 }
 
+// The word of two rows of bits.
+#[inline(always)]
+fn by_rows(zero: u64, one: u64) -> Word
+    requires { AreApart zero one }
+    ensures { result ≡ lanes_of zero one }
+{
+    Word { zero, one }
+}
+
 // The four words of such rows of bits.
 pub(crate) fn four_words(zeros: u64x4, ones: u64x4) -> [Word; 4]
     requires { AreEachApart zeros ones }
@@ -188,21 +198,9 @@ pub(crate) fn four_words(zeros: u64x4, ones: u64x4) -> [Word; 4]
     let zero = zeros.to_array();
     let one = ones.to_array();
     [
-        Word {
-            zero: zero[0],
-            one: one[0],
-        },
-        Word {
-            zero: zero[1],
-            one: one[1],
-        },
-        Word {
-            zero: zero[2],
-            one: one[2],
-        },
-        Word {
-            zero: zero[3],
-            one: one[3],
-        },
+        by_rows(zero[0], one[0]),
+        by_rows(zero[1], one[1]),
+        by_rows(zero[2], one[2]),
+        by_rows(zero[3], one[3]),
     ]
 }

@@ -1,5 +1,6 @@
 -- What the tables of the operations hold, tried at all 512 numbers.
 use Rattle.std.proofs.Common.{◌≡◌, ◌&&◌, ◌||◌, ℕ, Bool, true, false, List, [], get_or, refl, bit_and}
+use Rattle.ht_tern.specs.declared.tern.Tern.{Tern}
 use Rattle.ht_pairs.specs.Pairs.{Pair, same_pair, pair_operations}
 use Rattle.ht_tern.specs.Gate.{operation_of}
 use Rattle.ht_tern.specs.declared.gate.Kind.{Kind}
@@ -9,8 +10,8 @@ use Rattle.ht_pairs.specs.Moves.{along, lowers, raises, blurs, complements, pass
 use Rattle.ht_pairs.specs.declared.moves.Half.TheVariants.{Good, Faulty}
 use Rattle.ht_pairs.specs.declared.tables.TheConstants.{FIRST, SECOND}
 use Rattle.ht_pairs.proofs.MetLaws.{IsValid, IsMet-and, IsMet-any_of, any_of, followed}
-use Rattle.ht_pairs.proofs.MoveLaws.{tried}
-use Rattle.ht_pairs.proofs.OperationLaws.{IsResultOfTwo, table, by_table, and_lies, or_lies, between, crossed, xor_table}
+use Rattle.ht_pairs.proofs.MoveLaws.{IsTried, tried}
+use Rattle.ht_pairs.proofs.OperationLaws.{IsResultOfTwo, LiesBetween, table, by_table, and_lies, or_lies, xor_table}
 
 -- the rows of an operation
 abbrev pub rows_of : List (List (List ℕ)) → ℕ → List (List ℕ)
@@ -22,76 +23,65 @@ part rows i n = get_or (get_or rows n []) i 0
 
 -- the four meets
 abbrev pub met : List ℕ → List ℕ → ℕ
-met first second = any_of (bit_and (get_or first 0 0) (get_or second 0 0)) (bit_and (get_or first 1 0) (get_or second 1 0))
-    (bit_and (get_or first 2 0) (get_or second 2 0)) (bit_and (get_or first 3 0) (get_or second 3 0))
+met first second = any_of (bit_and (get_or first 0 0) (get_or second 1 0)) (bit_and (get_or first 1 0) (get_or second 0 0))
+    (bit_and (get_or first 2 0) (get_or second 3 0)) (bit_and (get_or first 3 0) (get_or second 2 0))
 
-abbrev both : (Pair → Pair → Bool) → (Pair → Pair → Bool) → Pair → Pair → Bool
-both f g = followed f g
+-- what an operation makes of two sets is in the rows at a place
+abbrev HasResults : (Pair → Pair → Pair) → ℕ → Type 0
+HasResults op place = (s t : ℕ) → IsValid s → IsValid t → IsResultOfTwo op s t
+    (met (get_or (rows_of FIRST place) s []) (get_or (rows_of SECOND place) t []))
 
--- what each operation makes of two sets is in its rows
-and_results : (s t : ℕ) → IsValid s → IsValid t → IsResultOfTwo pair_operations.conjunction s t
-    (met (get_or (rows_of FIRST 0) s []) (get_or (rows_of SECOND 0) t []))
-and_results s t hs ht =
-    let f = along Faulty lowers in
-    let g = along Good lowers in
-    let first = rows_of FIRST 0 in
-    let second = rows_of SECOND 0 in
-    by_table pair_operations.conjunction (between f g) and_lies.tabled s t _ hs ht (IsMet-any_of
-    (IsMet-and (tried (part first 0) same_pair refl s hs.1) (tried (part second 0) (both f g) refl t ht.1))
-    (IsMet-and (tried (part first 1) (both f g) refl s hs.1) (tried (part second 1) same_pair refl t ht.1))
-    (IsMet-and (tried (part first 2) f refl s hs.1) (tried (part second 2) g refl t ht.1))
-    (IsMet-and (tried (part first 3) g refl s hs.1) (tried (part second 3) f refl t ht.1)))
+-- each of the four parts of some rows is where a move leads
+abbrev AreMoved : List (List ℕ) → (a b c d : Pair → Pair → Bool) → Type 0
+AreMoved rows a b c d =
+    IsTried (part rows 0) a × IsTried (part rows 1) b × IsTried (part rows 2) c × IsTried (part rows 3) d
 
-or_results : (s t : ℕ) → IsValid s → IsValid t → IsResultOfTwo pair_operations.disjunction s t
-    (met (get_or (rows_of FIRST 1) s []) (get_or (rows_of SECOND 1) t []))
-or_results s t hs ht =
-    let f = along Faulty raises in
-    let g = along Good raises in
-    let first = rows_of FIRST 1 in
-    let second = rows_of SECOND 1 in
-    by_table pair_operations.disjunction (between f g) or_lies.tabled s t _ hs ht (IsMet-any_of
-    (IsMet-and (tried (part first 0) same_pair refl s hs.1) (tried (part second 0) (both f g) refl t ht.1))
-    (IsMet-and (tried (part first 1) (both f g) refl s hs.1) (tried (part second 1) same_pair refl t ht.1))
-    (IsMet-and (tried (part first 2) f refl s hs.1) (tried (part second 2) g refl t ht.1))
-    (IsMet-and (tried (part first 3) g refl s hs.1) (tried (part second 3) f refl t ht.1)))
+by_parts : (place : ℕ) (op : Pair → Pair → Pair) (a b c d a' b' c' d' : Pair → Pair → Bool)
+    → table op (λ p q r. (((a p r && b' q r) || (b p r && a' q r)) || (c p r && d' q r)) || (d p r && c' q r)) ≡ true
+    → AreMoved (rows_of FIRST place) a b c d → AreMoved (rows_of SECOND place) a' b' c' d' → HasResults op place
+by_parts place op a b c d a' b' c' d' tabled one two s t hs ht =
+    let first = rows_of FIRST place in
+    let second = rows_of SECOND place in
+    by_table op (λ p q r. (((a p r && b' q r) || (b p r && a' q r)) || (c p r && d' q r)) || (d p r && c' q r)) tabled
+    s t _ hs ht (IsMet-any_of
+    (IsMet-and (tried (part first 0) a one.0 s hs.1) (tried (part second 1) b' two.1 t ht.1))
+    (IsMet-and (tried (part first 1) b one.1 s hs.1) (tried (part second 0) a' two.0 t ht.1))
+    (IsMet-and (tried (part first 2) c one.2 s hs.1) (tried (part second 3) d' two.3 t ht.1))
+    (IsMet-and (tried (part first 3) d one.3 s hs.1) (tried (part second 2) c' two.2 t ht.1)))
 
-xor_results : (s t : ℕ) → IsValid s → IsValid t → IsResultOfTwo pair_operations.parity s t
-    (met (get_or (rows_of FIRST 2) s []) (get_or (rows_of SECOND 2) t []))
-xor_results s t hs ht =
-    let p = along Faulty passes in
-    let q = along Good passes in
-    let f = along Faulty flips in
-    let g = along Good flips in
-    let b = along Faulty blurs in
-    let c = along Good blurs in
-    let d = along Faulty complements in
-    let e = along Good complements in
-    let first = rows_of FIRST 2 in
-    let second = rows_of SECOND 2 in
-    by_table pair_operations.parity crossed xor_table s t _ hs ht (IsMet-any_of
-    (IsMet-and (tried (part first 0) (both p q) refl s hs.1) (tried (part second 0) (both b c) refl t ht.1))
-    (IsMet-and (tried (part first 1) (both f q) refl s hs.1) (tried (part second 1) (both d c) refl t ht.1))
-    (IsMet-and (tried (part first 2) (both p g) refl s hs.1) (tried (part second 2) (both b e) refl t ht.1))
-    (IsMet-and (tried (part first 3) (both f g) refl s hs.1) (tried (part second 3) (both d e) refl t ht.1)))
+-- of AND and of OR both arguments have the same rows
+abbrev AreMovedBetween : List (List ℕ) → (Pair → Pair → Bool) → (Pair → Pair → Bool) → Type 0
+AreMovedBetween rows f g = AreMoved rows same_pair (followed f g) f g
+
+by_halves : (place : ℕ) (op : Pair → Pair → Pair) (f g : Pair → Pair → Bool) → LiesBetween op f g
+    → AreMovedBetween (rows_of FIRST place) f g → AreMovedBetween (rows_of SECOND place) f g → HasResults op place
+by_halves place op f g lies one two =
+    by_parts place op same_pair (followed f g) f g same_pair (followed f g) f g lies.tabled one two
+
+and_results : HasResults pair_operations.conjunction 0
+and_results = by_halves 0 _ (along Faulty lowers) (along Good lowers) and_lies (refl, refl, refl, refl) (refl, refl, refl, refl)
+
+or_results : HasResults pair_operations.disjunction 1
+or_results = by_halves 1 _ (along Faulty raises) (along Good raises) or_lies (refl, refl, refl, refl) (refl, refl, refl, refl)
+
+-- one move of the faulty half, and then one of the good half
+abbrev both : (Tern → Tern → Bool) → (Tern → Tern → Bool) → Pair → Pair → Bool
+both f g = followed (along Faulty f) (along Good g)
+
+xor_results : HasResults pair_operations.parity 2
+xor_results =
+    by_parts 2 _ (both passes passes) (both flips passes) (both passes flips) (both flips flips)
+    (both complements blurs) (both blurs blurs) (both complements complements) (both blurs complements)
+    xor_table (refl, refl, refl, refl) (refl, refl, refl, refl)
 
 -- of an operation that is its first argument the second may be any
-abbrev alone : Pair → Pair → Pair → Bool
-alone p q r = (((same_pair p r && true) || false) || false) || false
+abbrev none : Pair → Pair → Bool
+none p q = false
 
-alone_table : table (λ p q. p) alone ≡ true
-alone_table = refl
-
-first_results : (s t : ℕ) → IsValid s → IsValid t → IsResultOfTwo (λ p q. p) s t
-    (met (get_or (rows_of FIRST 3) s []) (get_or (rows_of SECOND 3) t []))
-first_results s t hs ht =
-    let none : Pair → Pair → Bool = λ p q. false in
-    let first = rows_of FIRST 3 in
-    let second = rows_of SECOND 3 in
-    by_table (λ p q. p) alone alone_table s t _ hs ht (IsMet-any_of
-    (IsMet-and (tried (part first 0) same_pair refl s hs.1) (tried (part second 0) (λ q r. true) refl t ht.1))
-    (IsMet-and (tried (part first 1) none refl s hs.1) (tried (part second 1) none refl t ht.1))
-    (IsMet-and (tried (part first 2) none refl s hs.1) (tried (part second 2) none refl t ht.1))
-    (IsMet-and (tried (part first 3) none refl s hs.1) (tried (part second 3) none refl t ht.1)))
+first_results : HasResults (λ p q. p) 3
+first_results =
+    by_parts 3 _ same_pair none none none none (λ q r. true) none none refl
+    (refl, refl, refl, refl) (refl, refl, refl, refl)
 
 operated_results : (kind : Kind) (s t : ℕ) → IsValid s → IsValid t
     → IsResultOfTwo (operation_of pair_operations kind) s t

@@ -123,9 +123,9 @@ macro_rules! complemented_good {
     };
 }
 
-// The parts of the first argument, and of the second. Each half of a result of AND or OR is that half of one of the two
-// members, and the other member's may be moved to it.
-macro_rules! first_by_move {
+// The parts of either argument of AND and of OR. Each half of a result is that half of one of the two members, and the
+// other member's may be moved to it. Parts 0 and 1 of the one argument meet parts 1 and 0 of the other, and so 2 and 3.
+macro_rules! by_one_move {
     ($moved:ident $moved_good:ident $x:tt $one:tt $zero:tt) => {
         [
             set!($x, $one, $zero),
@@ -136,43 +136,21 @@ macro_rules! first_by_move {
     };
 }
 
-macro_rules! second_by_move {
-    ($moved:ident $moved_good:ident $x:tt $one:tt $zero:tt) => {
-        [
-            $moved_good!($moved!($x), $moved!($one), $moved!($zero)),
-            set!($x, $one, $zero),
-            $moved_good!($x, $one, $zero),
-            set!($moved!($x), $moved!($one), $moved!($zero)),
-        ]
+macro_rules! parts_of_and {
+    ($x:tt $one:tt $zero:tt) => {
+        by_one_move!(lowered lowered_good $x $one $zero)
     };
 }
 
-macro_rules! first_of_and {
+macro_rules! parts_of_or {
     ($x:tt $one:tt $zero:tt) => {
-        first_by_move!(lowered lowered_good $x $one $zero)
-    };
-}
-
-macro_rules! second_of_and {
-    ($x:tt $one:tt $zero:tt) => {
-        second_by_move!(lowered lowered_good $x $one $zero)
-    };
-}
-
-macro_rules! first_of_or {
-    ($x:tt $one:tt $zero:tt) => {
-        first_by_move!(raised raised_good $x $one $zero)
-    };
-}
-
-macro_rules! second_of_or {
-    ($x:tt $one:tt $zero:tt) => {
-        second_by_move!(raised raised_good $x $one $zero)
+        by_one_move!(raised raised_good $x $one $zero)
     };
 }
 
 // Where a half of the first member is 0, the second member's passes; where it is 1, the second's complement does. Each
-// of two moves of the good halves comes after each of two moves of the faulty halves.
+// of two moves of the good halves comes after each of two moves of the faulty halves. The second argument has its moves
+// of the faulty halves in the other order, since parts meet crosswise.
 macro_rules! by_two_moves {
     ($zero_moved:ident $zero_good:ident $one_moved:ident $one_good:ident $x:tt $one:tt $zero:tt) => {
         [
@@ -192,7 +170,7 @@ macro_rules! first_of_xor {
 
 macro_rules! second_of_xor {
     ($x:tt $one:tt $zero:tt) => {
-        by_two_moves!(blurred blurred_good complemented complemented_good $x $one $zero)
+        by_two_moves!(complemented blurred_good blurred complemented_good $x $one $zero)
     };
 }
 
@@ -208,7 +186,7 @@ macro_rules! any_second {
         [0, 0, 0, 0]
     };
     ($x:tt $one:tt $zero:tt) => {
-        [0o777, 0, 0, 0]
+        [0, 0o777, 0, 0]
     };
 }
 
@@ -308,16 +286,16 @@ macro_rules! each_set {
 
 /// The four parts of each first argument, for the operations of AND, OR, XOR and BUFF.
 pub(crate) static FIRST: [[[u16; 4]; 512]; 4] = [
-    each_set!(first_of_and),
-    each_set!(first_of_or),
+    each_set!(parts_of_and),
+    each_set!(parts_of_or),
     each_set!(first_of_xor),
     each_set!(first_alone),
 ];
 
 /// The four parts of each second argument.
 pub(crate) static SECOND: [[[u16; 4]; 512]; 4] = [
-    each_set!(second_of_and),
-    each_set!(second_of_or),
+    each_set!(parts_of_and),
+    each_set!(parts_of_or),
     each_set!(second_of_xor),
     each_set!(any_second),
 ];

@@ -1,3 +1,4 @@
 mod KnownVectors
+mod GrownLaws
 pub mod RandomVectorLaws
 pub mod WeightedLaws

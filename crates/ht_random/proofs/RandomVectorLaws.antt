@@ -1,11 +1,10 @@
 -- Laws of random words and vectors.
-use Rattle.std.proofs.Common.{◌≡◌, ◌<◌, ◌-◌, ℕ, zero, suc, [], ◌∷◌, ◌+◌, length, get_or, refl, add-one, ap, arith, inl, inr, length-append, sym, ◌∙◌}
-use Rattle.std.proofs.lemmas.Bool.{cases_lt}
+use Rattle.std.proofs.Common.{◌≡◌, ◌<◌, ℕ, zero, suc, [], ◌+◌, length, get_or, refl, add-one, arith, length-append}
 use Rattle.std.proofs.lemmas.Grind.{common_steps}
-use Rattle.std.proofs.lemmas.List.{get_or_append_left, get_or_push}
 use Rattle.rand_pcg.specs.Lcg.{Lcg}
 use Rattle.ht_random.specs.Words.{after_word, after_words}
 use Rattle.ht_random.specs.RandomVectors.{random_vector, generator_after, random_vectors}
+use Rattle.ht_random.proofs.GrownLaws.{Grows, grown_count, grown_at}
 
 -- one word more
 pub after_words_more : (n : ℕ) (g : Lcg) → after_words (n + 1) g ≡ after_word (after_words n g)
@@ -22,25 +21,13 @@ random_vector_length (suc n) g =
     let before = random_vector_length n g in
     grind (arith, common_steps, length-append, before)
 
+random_vectors_grow : (n seed : ℕ) → Grows (λ k. random_vector n (generator_after n k seed)) (λ k. random_vectors n k seed)
+random_vectors_grow n seed = record { none = refl; more = λ k. refl }
+
 pub random_vectors_count : (n k seed : ℕ) → length (random_vectors n k seed) ≡ k
-random_vectors_count n zero seed = refl
-random_vectors_count n (suc k) seed =
-    let before = random_vectors_count n k seed in
-    grind (arith, common_steps, length-append, before)
+random_vectors_count n k seed = grown_count _ _ (random_vectors_grow n seed) k
 
 -- each of the first k vectors by its number from 0
 pub random_vector_at : (n k seed j : ℕ) → j < k
     → get_or (random_vectors n k seed) j [] ≡ random_vector n (generator_after n j seed)
-random_vector_at n zero seed j l = absurd (omega (arith, l))
-random_vector_at n (suc k) seed j l =
-    let before = random_vectors n k seed in
-    let count : length before ≡ k = random_vectors_count n k seed in
-    elim (cases_lt j k) [
-      | inl under ↦
-          get_or_append_left before (random_vector n (generator_after n k seed) ∷ []) [] j (omega (arith, under, count))
-          ∙ random_vector_at n k seed j under
-      | inr from ↦
-          let at : k ≡ j = omega (arith, from, l) in
-          get_or_push before (random_vector n (generator_after n k seed)) [] j (count ∙ at)
-          ∙ ap (λ (i : ℕ). random_vector n (generator_after n i seed)) at
-    ]
+random_vector_at n k seed j l = grown_at _ _ (random_vectors_grow n seed) [] k j l

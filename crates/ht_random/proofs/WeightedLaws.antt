@@ -1,14 +1,13 @@
 -- Laws of weighted vectors: how many bits and vectors there are, and how the generator goes on from one vector to the
 -- next.
-use Rattle.std.proofs.Common.{◌≡◌, ◌≢◌, ◌<◌, ◌+◌, ◌%◌, ◌/◌, ℕ, zero, suc, List, [], ◌∷◌, length, get_or, refl, sym, ◌∙◌, ap, inl, inr, arith, length-append}
-use Rattle.std.proofs.lemmas.Bool.{cases_lt}
+use Rattle.std.proofs.Common.{◌≡◌, ◌≢◌, ◌<◌, ◌+◌, ◌%◌, ◌/◌, ℕ, zero, suc, List, [], length, get_or, refl, sym, ◌∙◌, ap, inl, inr, arith, length-append}
 use Rattle.std.proofs.lemmas.Bool.Decides.{eqb_tells}
 use Rattle.std.proofs.lemmas.Grind.{common_steps}
-use Rattle.std.proofs.lemmas.List.{get_or_append_left, get_or_push}
 use Rattle.rand_pcg.specs.Lcg.{Lcg}
 use Rattle.ht_random.specs.Words.{after_words}
 use Rattle.ht_random.specs.WeightedVectors.{burst_length, burst_start, drawn_weights, in_burst, vector_by, weighted_vector, weighted_vectors}
 use Rattle.ht_random.specs.WeightedOf.{StandsAt}
+use Rattle.ht_random.proofs.GrownLaws.{Grows, grown_count, grown_at}
 
 -- how many bits and vectors there are
 vector_by_length : (weights : List ℕ) (n : ℕ) (g : Lcg) → length (vector_by weights n g) ≡ n
@@ -22,27 +21,15 @@ unfolding weighted_vector
 weighted_vector_length n k seed = vector_by_length (drawn_weights n (burst_start n (k / burst_length) seed)) n
     (in_burst n (k % burst_length) (burst_start n (k / burst_length) seed))
 
+weighted_vectors_grow : (n seed : ℕ) → Grows (λ k. weighted_vector n k seed) (λ k. weighted_vectors n k seed)
+weighted_vectors_grow n seed = record { none = refl; more = λ k. refl }
+
 pub weighted_vectors_count : (n k seed : ℕ) → length (weighted_vectors n k seed) ≡ k
-weighted_vectors_count n zero seed = refl
-weighted_vectors_count n (suc k) seed =
-    let before = weighted_vectors_count n k seed in
-    grind (arith, common_steps, length-append, before)
+weighted_vectors_count n k seed = grown_count _ _ (weighted_vectors_grow n seed) k
 
 -- each of the first k vectors by its number from 0
 pub weighted_vector_at : (n k seed j : ℕ) → j < k → get_or (weighted_vectors n k seed) j [] ≡ weighted_vector n j seed
-weighted_vector_at n zero seed j l = absurd (omega (arith, l))
-weighted_vector_at n (suc k) seed j l =
-    let before = weighted_vectors n k seed in
-    let count : length before ≡ k = weighted_vectors_count n k seed in
-    elim (cases_lt j k) [
-      | inl under ↦
-          get_or_append_left before (weighted_vector n k seed ∷ []) [] j (omega (arith, under, count))
-          ∙ weighted_vector_at n k seed j under
-      | inr from ↦
-          let at : k ≡ j = omega (arith, from, l) in
-          get_or_push before (weighted_vector n k seed) [] j (count ∙ at)
-          ∙ ap (λ (i : ℕ). weighted_vector n i seed) at
-    ]
+weighted_vector_at n k seed j l = grown_at _ _ (weighted_vectors_grow n seed) [] k j l
 
 -- the weights of a burst are drawn first
 pub burst_begins : (n : ℕ) (g : Lcg) → in_burst n 0 g ≡ after_words n g

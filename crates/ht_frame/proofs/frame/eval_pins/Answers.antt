@@ -1,5 +1,5 @@
-use Rattle.std.proofs.Common.{length, arith, take}
-use Rattle.ht_net.proofs.FrameLaws.{pins_done, gate_from}
+use Rattle.std.proofs.Common.{◌∙◌, arith, ap}
+use Rattle.ht_net.proofs.FrameLaws.{pins_done}
 use Rattle.ht_net.specs.Frame.{pin_values}
 use Rattle.ht_net.specs.Faults.{rules_of}
 use Rattle.ht_frame.specs.Values.{env_of}
@@ -8,10 +8,7 @@ use Rattle.ht_frame.proofs.frame.eval_pins.Goals as goal
 pub returns : goal.returns
 returns g c =
     let r = rules_of g.V.Domain.blank g.V.Domain.gate g.V.Domain.stick c.args.fault in
-    let args = c.gate_args-args.result.now in
+    let args = c.args.args.now in
     let env = env_of g.V.Domain.blank c.args.values.now in
-    gate_from c.args.circuit.now r c.args.g env c.gate_kind.result args (take (length args) c.loop-i.pins) c.gate.result
-    c.gate_kind.ensures c.gate_args-args.ensures.args
-    (pins_done r c.args.g env args c.loop-i.pins c.loop-i.i (pin_values r c.args.g env 0 args) (omega arith)
-    c.loop-i.invariant.filled)
-    c.gate.ensures
+    c.gate.ensures ∙ ap (g.V.Domain.gate c.args.kind) (pins_done r c.args.g env args c.loop-i.pins c.loop-i.i
+    (pin_values r c.args.g env 0 args) (omega arith) c.loop-i.invariant.filled)
