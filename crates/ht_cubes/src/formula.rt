@@ -6,10 +6,9 @@ ghost use Rattle.ht_cubes.specs.Rails.{IsKnownRail};
 ghost use Rattle.ht_cubes.specs.Formula.{clauses_of, formula_of, last_variable, without_constants};
 ghost use Rattle.ht_cubes.specs.Cones.{marked};
 
-use crate::frame::push_frame;
-use crate::targets::{all_targets, is_constant, push_cubes, push_targets};
+use crate::machines::Machines;
+use crate::targets::{is_constant, push_targets};
 use crate::{Cube, Rows, SignedVar};
-use ht_net::{Circuit, Fault};
 use std::alloc::{AllocError, Global};
 
 /// A formula: its clauses, numbered from 1, and the highest variable.
@@ -48,40 +47,39 @@ fn without_constants(alloc: Global, clauses: &Rows) -> Result<Rows, AllocError>
     Ok(rows)
 }
 
-/// The formula of a fault and a list of cubes.
-///
-/// # Errors
-/// Out of memory, or 2^32 or more that stands in clauses.
-pub(crate) fn build(
-    alloc: Global,
-    circuit: &Circuit,
-    fault: Fault,
-    cone: &[bool],
-    cubes: &[Cube],
-) -> Result<Formula, AllocError>
-    requires known { All (All (IsKnownRail circuit.now (marked cone.now))) cubes.now }
-    requires cone { length cone.now ≡ net_count circuit.now }
-    ensures clauses { IfOk result
-        (λ f. f.clauses ≡ formula_of circuit.now fault (marked cone.now) cubes.now) }
-    ensures last { IfOk result
-        (λ f. f.last ≡ last_variable circuit.now fault (marked cone.now) cubes.now) }
-    ensures few { IfOk result (λ f. f.last < 2 ^ 32 - 1) }
-{
-    let rails = 4 * circuit.nets();
-    let mut rows = Rows::new(alloc);
-    push_frame(alloc, &mut rows, circuit, fault, cone)?;
-    push_cubes(alloc, &mut rows, circuit, cone, cubes)?;
-    let targets = all_targets(alloc, circuit, fault, cone, cubes)?;
-    let Ok(count) = u32::try_from(targets.len()) else {
-        return Err(AllocError);
-    };
-    if count >= u32::MAX - rails {
-        return Err(AllocError);
+impl<'a> Machines<'a> {
+    /// The formula of a fault and a list of cubes.
+    ///
+    /// # Errors
+    /// Out of memory, or 2^32 or more that stands in clauses.
+    pub(crate) fn build(&self, alloc: Global, cubes: &[Cube]) -> Result<Formula, AllocError>
+        requires known { All (All (IsKnownRail self.now.circuit.now
+            (marked self.now.cone.now))) cubes.now }
+        requires cone { length self.now.cone.now ≡ net_count self.now.circuit.now }
+        ensures clauses { IfOk result
+            (λ f. f.clauses
+            ≡ formula_of self.now.circuit.now self.now.fault (marked self.now.cone.now) cubes.now) }
+        ensures last { IfOk result
+            (λ f. f.last ≡ last_variable self.now.circuit.now self.now.fault
+            (marked self.now.cone.now) cubes.now) }
+        ensures few { IfOk result (λ f. f.last < 2 ^ 32 - 1) }
+    {
+        let rails = 4 * self.circuit.nets();
+        let mut rows = Rows::new(alloc);
+        self.push_frame(alloc, &mut rows)?;
+        self.push_cubes(alloc, &mut rows, cubes)?;
+        let targets = self.all_targets(alloc, cubes)?;
+        let Ok(count) = u32::try_from(targets.len()) else {
+            return Err(AllocError);
+        };
+        if count >= u32::MAX - rails {
+            return Err(AllocError);
+        }
+        push_targets(alloc, &mut rows, rails + 1, &targets)?;
+        let clauses = without_constants(alloc, &rows)?;
+        Ok(Formula {
+            clauses,
+            last: rails + count,
+        })
     }
-    push_targets(alloc, &mut rows, rails + 1, &targets)?;
-    let clauses = without_constants(alloc, &rows)?;
-    Ok(Formula {
-        clauses,
-        last: rails + count,
-    })
 }

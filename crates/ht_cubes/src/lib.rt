@@ -19,6 +19,7 @@ mod frame;
 mod gate_lines;
 mod gates;
 mod lines;
+mod machines;
 mod parity;
 mod rail;
 mod refutation;

@@ -5,9 +5,10 @@ ghost use Rattle.ht_cubes.specs.Rails.{stuck_line};
 ghost use Rattle.ht_cubes.specs.Formula.{driver_signal, net_signal, next_signal, positive, rail_of, rail_variable, stuck_signal, turned, unknown_signal};
 ghost use Rattle.ht_cubes.specs.Cones.{marked};
 
+use crate::machines::Machines;
 use crate::{Signal, SignedVar};
 use ht_frame::{Domain, data_pin, stem};
-use ht_net::{Circuit, Fault};
+use ht_net::Fault;
 use ht_tern::Kind;
 
 impl Signal {
@@ -106,51 +107,47 @@ fn rail_number(nets: u32, own: bool, x: u32, bit: bool) -> u32
     }
 }
 
-/// What drives net `x` of a machine. `cone` has a mark for each net of the cone.
-pub(crate) fn driver(circuit: &Circuit, cone: &[bool], faulty: bool, x: u32) -> Signal
-    requires known { x < net_count circuit.now }
-    requires cone { length cone.now ≡ net_count circuit.now }
-    ensures { result ≡ driver_signal circuit.now (marked cone.now) faulty x }
-{
-    let nets = circuit.nets();
-    prove_eq!(cone.len(), nets as usize);
-    let own = has_own(cone, faulty, x);
-    Signal {
-        zero: SignedVar {
-            variable: rail_number(nets, own, x, false),
-            value: true,
-        },
-        one: SignedVar {
-            variable: rail_number(nets, own, x, true),
-            value: true,
-        },
+impl<'a> Machines<'a> {
+    /// What drives net `x` of a machine.
+    pub(crate) fn driver(&self, faulty: bool, x: u32) -> Signal
+        requires known { x < net_count self.now.circuit.now }
+        requires cone { length self.now.cone.now ≡ net_count self.now.circuit.now }
+        ensures { result ≡ driver_signal self.now.circuit.now (marked self.now.cone.now) faulty x }
+    {
+        let nets = self.circuit.nets();
+        prove_eq!(self.cone.len(), nets as usize);
+        let own = has_own(self.cone, faulty, x);
+        Signal {
+            zero: SignedVar {
+                variable: rail_number(nets, own, x, false),
+                value: true,
+            },
+            one: SignedVar {
+                variable: rail_number(nets, own, x, true),
+                value: true,
+            },
+        }
     }
-}
 
-/// Net `x` of a machine as its loads see it.
-pub(crate) fn net(circuit: &Circuit, fault: Fault, cone: &[bool], faulty: bool, x: u32) -> Signal
-    requires known { x < net_count circuit.now }
-    requires cone { length cone.now ≡ net_count circuit.now }
-    ensures { result ≡ net_signal circuit.now fault (marked cone.now) faulty x }
-{
-    stem(
-        stuck_line(fault, faulty),
-        x,
-        driver(circuit, cone, faulty, x),
-    )
-}
+    /// Net `x` of a machine as its loads see it.
+    pub(crate) fn net(&self, faulty: bool, x: u32) -> Signal
+        requires known { x < net_count self.now.circuit.now }
+        requires cone { length self.now.cone.now ≡ net_count self.now.circuit.now }
+        ensures { result
+            ≡ net_signal self.now.circuit.now self.now.fault (marked self.now.cone.now) faulty x }
+    {
+        stem(stuck_line(self.fault, faulty), x, self.driver(faulty, x))
+    }
 
-/// What latch `j` of a machine takes for the next frame.
-pub(crate) fn next(circuit: &Circuit, fault: Fault, cone: &[bool], faulty: bool, j: u32) -> Signal
-    requires known { j < length circuit.now.dffs }
-    requires cone { length cone.now ≡ net_count circuit.now }
-    ensures { result ≡ next_signal circuit.now fault (marked cone.now) faulty j }
-{
-    prove_eq!(cone.len(), circuit.nets() as usize);
-    let data = circuit.dff_data(j);
-    data_pin(
-        stuck_line(fault, faulty),
-        j,
-        net(circuit, fault, cone, faulty, data.0),
-    )
+    /// What latch `j` of a machine takes for the next frame.
+    pub(crate) fn next(&self, faulty: bool, j: u32) -> Signal
+        requires known { j < length self.now.circuit.now.dffs }
+        requires cone { length self.now.cone.now ≡ net_count self.now.circuit.now }
+        ensures { result
+            ≡ next_signal self.now.circuit.now self.now.fault (marked self.now.cone.now) faulty j }
+    {
+        prove_eq!(self.cone.len(), self.circuit.nets() as usize);
+        let data = self.circuit.dff_data(j);
+        data_pin(stuck_line(self.fault, faulty), j, self.net(faulty, data.0))
+    }
 }

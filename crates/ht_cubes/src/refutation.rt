@@ -11,7 +11,7 @@ ghost use Rattle.ht_net.specs.Undetectable.{IsUndetectable};
 ghost use Rattle.ht_cubes.specs.Passing.{RefutesByCubes};
 
 use crate::cone::cone_of;
-use crate::formula::build;
+use crate::machines::Machines;
 use crate::steps::{are_within, ends_empty, steps_pass};
 use crate::{ClauseStep, Cube, Rail};
 use ht_net::{Circuit, Fault};
@@ -142,7 +142,12 @@ pub fn refuted(
     if !ends_empty(steps) {
         return Ok(false);
     }
-    let mut formula = build(alloc, circuit, fault, cone, cubes)?;
+    let machines = Machines {
+        circuit,
+        fault,
+        cone,
+    };
+    let mut formula = machines.build(alloc, cubes)?;
     if !are_within(formula.last, steps) {
         return Ok(false);
     }

@@ -7,49 +7,10 @@ ghost use Rattle.ht_cubes.specs.Rails.{IsKnownRail};
 ghost use Rattle.ht_cubes.specs.Formula.{cube_clause, is_constant, may_come, needs, next_target, output_targets, positive, some_target, target_clauses, targets_of};
 ghost use Rattle.ht_cubes.specs.Cones.{marked};
 
-use crate::lines::{driver, net, next};
+use crate::machines::Machines;
 use crate::{Cube, Rail, Rows, SignedVar};
-use ht_net::{Circuit, Fault, NetId};
+use ht_net::NetId;
 use std::alloc::{AllocError, Global};
-
-// The clause by which not all rails of a cube hold.
-fn push_cube(
-    alloc: Global,
-    rows: &mut Rows,
-    circuit: &Circuit,
-    cone: &[bool],
-    cube: &[Rail],
-) -> Result<(), AllocError>
-    requires known { All (IsKnownRail circuit.now (marked cone.now)) cube.now }
-    requires cone { length cone.now ≡ net_count circuit.now }
-    ensures { OnOk result (rows.new ≡ rows.old ++ cube_clause circuit.now (marked cone.now) cube.now ∷ []) }
-{
-    prove_eq!(cone.len(), circuit.nets() as usize);
-    let mut clause = Vec::new(alloc);
-    'rails: for rail in cube {
-        let latch = driver(circuit, cone, rail.faulty, circuit.dff_net(rail.dff).0);
-        clause.push(latch.rail(rail.value).complement())?;
-    }
-    rows.push(&clause)
-}
-
-/// The clauses of the cubes that are avoided.
-pub(crate) fn push_cubes(
-    alloc: Global,
-    rows: &mut Rows,
-    circuit: &Circuit,
-    cone: &[bool],
-    cubes: &[Cube],
-) -> Result<(), AllocError>
-    requires known { All (All (IsKnownRail circuit.now (marked cone.now))) cubes.now }
-    requires cone { length cone.now ≡ net_count circuit.now }
-    ensures { OnOk result (rows.new ≡ rows.old ++ map (cube_clause circuit.now (marked cone.now)) cubes.now) }
-{
-    'cubes: for cube in cubes {
-        push_cube(alloc, rows, circuit, cone, cube.as_slice())?;
-    }
-    Ok(())
-}
 
 // Whether a signed variable is the constant of this bit.
 pub(crate) fn is_constant(bit: bool, literal: SignedVar) -> bool
@@ -71,75 +32,99 @@ fn push_target(rows: &mut Rows, target: &[SignedVar]) -> Result<(), AllocError>
     rows.push(target)
 }
 
-// The target of a cube.
-fn push_next(
-    alloc: Global,
-    rows: &mut Rows,
-    circuit: &Circuit,
-    fault: Fault,
-    cone: &[bool],
-    cube: &[Rail],
-) -> Result<(), AllocError>
-    requires known { All (IsKnownRail circuit.now (marked cone.now)) cube.now }
-    requires cone { length cone.now ≡ net_count circuit.now }
-    ensures { OnOk result (rows.new ≡ rows.old
-        ++ filter may_come (next_target circuit.now fault (marked cone.now) cube.now ∷ [])) }
-{
-    let mut target = Vec::new(alloc);
-    'rails: for rail in cube {
-        let data = next(circuit, fault, cone, rail.faulty, rail.dff);
-        target.push(data.rail(rail.value))?;
+impl<'a> Machines<'a> {
+    // The clause by which not all rails of a cube hold.
+    fn push_cube(&self, alloc: Global, rows: &mut Rows, cube: &[Rail]) -> Result<(), AllocError>
+        requires known { All (IsKnownRail self.now.circuit.now
+            (marked self.now.cone.now)) cube.now }
+        requires cone { length self.now.cone.now ≡ net_count self.now.circuit.now }
+        ensures { OnOk result (rows.new ≡ rows.old
+            ++ cube_clause self.now.circuit.now (marked self.now.cone.now) cube.now ∷ []) }
+    {
+        prove_eq!(self.cone.len(), self.circuit.nets() as usize);
+        let mut clause = Vec::new(alloc);
+        'rails: for rail in cube {
+            let latch = self.driver(rail.faulty, self.circuit.dff_net(rail.dff).0);
+            clause.push(latch.rail(rail.value).complement())?;
+        }
+        rows.push(&clause)
     }
-    push_target(rows, &target)
-}
 
-// The targets of an output.
-fn push_output(
-    rows: &mut Rows,
-    circuit: &Circuit,
-    fault: Fault,
-    cone: &[bool],
-    output: NetId,
-) -> Result<(), AllocError>
-    requires known { output.0 < net_count circuit.now }
-    requires cone { length cone.now ≡ net_count circuit.now }
-    ensures { OnOk result (rows.new ≡ rows.old
-        ++ filter may_come (output_targets circuit.now fault (marked cone.now) output)) }
-{
-    prove_eq!(cone.len(), circuit.nets() as usize);
-    let inside = cone[output.index()];
-    if !inside {
-        return Ok(());
+    /// The clauses of the cubes that are avoided.
+    pub(crate) fn push_cubes(
+        &self,
+        alloc: Global,
+        rows: &mut Rows,
+        cubes: &[Cube],
+    ) -> Result<(), AllocError>
+        requires known { All (All (IsKnownRail self.now.circuit.now
+            (marked self.now.cone.now))) cubes.now }
+        requires cone { length self.now.cone.now ≡ net_count self.now.circuit.now }
+        ensures { OnOk result (rows.new ≡ rows.old
+            ++ map (cube_clause self.now.circuit.now (marked self.now.cone.now)) cubes.now) }
+    {
+        'cubes: for cube in cubes {
+            self.push_cube(alloc, rows, cube.as_slice())?;
+        }
+        Ok(())
     }
-    let good = net(circuit, fault, cone, false, output.0);
-    let faulty = net(circuit, fault, cone, true, output.0);
-    push_target(rows, &[good.rail(false), faulty.rail(true)])?;
-    push_target(rows, &[good.rail(true), faulty.rail(false)])?;
-    Ok(())
-}
 
-/// The targets that have a variable, of the cubes and then of the outputs.
-pub(crate) fn all_targets(
-    alloc: Global,
-    circuit: &Circuit,
-    fault: Fault,
-    cone: &[bool],
-    cubes: &[Cube],
-) -> Result<Rows, AllocError>
-    requires known { All (All (IsKnownRail circuit.now (marked cone.now))) cubes.now }
-    requires cone { length cone.now ≡ net_count circuit.now }
-    ensures { IfOk result (λ rows. rows ≡ targets_of circuit.now fault (marked cone.now) cubes.now) }
-{
-    prove_eq!(cone.len(), circuit.nets() as usize);
-    let mut rows = Rows::new(alloc);
-    'cubes: for cube in cubes {
-        push_next(alloc, &mut rows, circuit, fault, cone, cube.as_slice())?;
+    // The target of a cube.
+    fn push_next(&self, alloc: Global, rows: &mut Rows, cube: &[Rail]) -> Result<(), AllocError>
+        requires known { All (IsKnownRail self.now.circuit.now
+            (marked self.now.cone.now)) cube.now }
+        requires cone { length self.now.cone.now ≡ net_count self.now.circuit.now }
+        ensures { OnOk result (rows.new ≡ rows.old
+            ++ filter may_come (next_target self.now.circuit.now self.now.fault
+            (marked self.now.cone.now) cube.now ∷ [])) }
+    {
+        let mut target = Vec::new(alloc);
+        'rails: for rail in cube {
+            let data = self.next(rail.faulty, rail.dff);
+            target.push(data.rail(rail.value))?;
+        }
+        push_target(rows, &target)
     }
-    'places: for o in 0..circuit.outputs() {
-        let output = circuit.output(o);
-        push_output(&mut rows, circuit, fault, cone, output)?;
+
+    // The targets of an output.
+    fn push_output(&self, rows: &mut Rows, output: NetId) -> Result<(), AllocError>
+        requires known { output.0 < net_count self.now.circuit.now }
+        requires cone { length self.now.cone.now ≡ net_count self.now.circuit.now }
+        ensures { OnOk result (rows.new ≡ rows.old
+            ++ filter may_come (output_targets self.now.circuit.now self.now.fault
+            (marked self.now.cone.now) output)) }
+    {
+        prove_eq!(self.cone.len(), self.circuit.nets() as usize);
+        let inside = self.cone[output.index()];
+        if !inside {
+            return Ok(());
+        }
+        let good = self.net(false, output.0);
+        let faulty = self.net(true, output.0);
+        push_target(rows, &[good.rail(false), faulty.rail(true)])?;
+        push_target(rows, &[good.rail(true), faulty.rail(false)])?;
+        Ok(())
     }
-    Ok(rows)
+
+    /// The targets that have a variable, of the cubes and then of the outputs.
+    pub(crate) fn all_targets(&self, alloc: Global, cubes: &[Cube]) -> Result<Rows, AllocError>
+        requires known { All (All (IsKnownRail self.now.circuit.now
+            (marked self.now.cone.now))) cubes.now }
+        requires cone { length self.now.cone.now ≡ net_count self.now.circuit.now }
+        ensures { IfOk result (λ rows. rows
+            ≡ targets_of self.now.circuit.now self.now.fault (marked self.now.cone.now) cubes.now) }
+    {
+        prove_eq!(self.cone.len(), self.circuit.nets() as usize);
+        let mut rows = Rows::new(alloc);
+        'cubes: for cube in cubes {
+            self.push_next(alloc, &mut rows, cube.as_slice())?;
+        }
+        'places: for o in 0..self.circuit.outputs() {
+            let output = self.circuit.output(o);
+            self.push_output(&mut rows, output)?;
+        }
+        Ok(rows)
+    }
 }
 
 // The clauses by which a target's variable needs its rails.

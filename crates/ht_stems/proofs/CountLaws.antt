@@ -1,5 +1,5 @@
 -- The loads of nets, counted one by one.
-use Rattle.std.proofs.Common.{◌≡◌, ◌≢◌, ◌<◌, ◌≤◌, ◌+◌, ◌∙◌, ℕ, List, true, false, length, get_or, set, take, refl, sym, subst, arith, add_assoc, inl, inr, get_or-set_other, get_or-set_same}
+use Rattle.std.proofs.Common.{◌≡◌, ◌≢◌, ◌<◌, ◌≤◌, ◌+◌, ◌∙◌, ℕ, List, true, false, length, get_or, set, take, refl, sym, ap, subst, arith, add_assoc, inl, inr, get_or-set_other, get_or-set_same}
 use Rattle.std.specs.Prelude.{eqb}
 use Rattle.std.proofs.lemmas.Bool.{eq-eqb, ne_eqb}
 use Rattle.std.proofs.lemmas.Bool.Decides.{eqb_tells}
@@ -7,7 +7,7 @@ use Rattle.std.specs.List.{sum_by}
 use Rattle.std.proofs.lemmas.List.{take_all}
 use Rattle.std.proofs.lemmas.List.Sums.{count_by_more_yes, count_by_more_no, sum_by_more}
 use Rattle.ht_net.specs.declared.net.NetId.{NetId}
-use Rattle.ht_net.specs.Netlist.{Netlist, Gate, gate_at, no_gate, no_net}
+use Rattle.ht_net.specs.Netlist.{Netlist, Gate, gate_at, net_count, no_gate, no_net}
 use Rattle.ht_net.specs.Levels.{times}
 use Rattle.ht_stems.specs.declared.net_loads.NetLoads.{NetLoads}
 use Rattle.ht_stems.specs.declared.net_loads.NetLoads.TheVariants.{NoLoad, OneGate, OneDataPin, OneOutput, Several}
@@ -84,6 +84,17 @@ pub counted_more : (c : Netlist) (old table new : List NetLoads) (nets : List Ne
 counted_more c old table new nets i net load written inside is known one before n h x =
     let P : List NetLoads → Type 0 = λ t. CountsAs c x (n x + times x (take (i + 1) nets)) (get_or t x NoLoad) in
     subst P (sym written) (load_added c n table nets i net.0 load inside is known one (before n h) x)
+
+-- One more net of a list of the circuit's nets is counted, which was read.
+pub place_counted : (c : Netlist) (old table new : List NetLoads) (nets : List NetId) (i : ℕ) (net : NetId)
+    (load : NetLoads) → HasEntries c table → new ≡ set table net.0 (with_load (get_or table net.0 NoLoad) load)
+    → i < length nets → net ≡ get_or nets i no_net → (get_or nets i no_net).0 < net_count c
+    → ((get_or nets i no_net).0 ≡ net.0 → CountsAs c net.0 1 load)
+    → CountsMore c old table (take i nets) → CountsMore c old new (take (i + 1) nets)
+place_counted c old table new nets i net load entries written inside is known one =
+    let at : (get_or nets i no_net).0 ≡ net.0 = ap (λ (n : NetId). n.0) (sym is) in
+    let count = entries.count in
+    counted_more c old table new nets i net load written inside at (omega (arith, at, known, count)) (one at)
 
 -- The pins of one more gate are counted.
 pub gate_counted : (c : Netlist) (table : List NetLoads) (g : ℕ) → g < length c.gates

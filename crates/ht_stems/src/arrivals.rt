@@ -11,7 +11,7 @@ ghost use Rattle.ht_stems.specs.ArrivalsView.{good_of_net};
 use crate::Arrival;
 use crate::net_ends::{NetEnds, end_in};
 use crate::net_loads::{NetLoads, find_loads};
-use crate::pass::{has_net_value, write_ends};
+use crate::pass::{LoadedCircuit, has_net_value};
 use ht_frame::{MAX_GATE_PINS, gate_output};
 use ht_net::{Circuit, Fault, NetId, Site};
 use ht_tern::Tern;
@@ -83,7 +83,11 @@ impl<'c> Arrivals<'c> {
         values.copy_from_slice(good);
         let mut ends = vec![in alloc; none; nets]?;
         let mut pins = vec![in alloc; Tern::Unk; MAX_GATE_PINS]?;
-        write_ends(circuit, &loads, &mut values, &mut pins, &mut ends);
+        let loaded = LoadedCircuit {
+            circuit,
+            loads: loads.as_slice(),
+        };
+        loaded.write_ends(&mut values, &mut pins, &mut ends);
         Ok(Arrivals {
             circuit,
             loads,
@@ -99,13 +103,11 @@ impl<'c> Arrivals<'c> {
         ensures { self.new ≡ record self.old { good = good.now } }
     {
         self.values.copy_from_slice(good);
-        write_ends(
-            self.circuit,
-            &self.loads,
-            &mut self.values,
-            &mut self.pins,
-            &mut self.ends,
-        );
+        let loaded = LoadedCircuit {
+            circuit: self.circuit,
+            loads: self.loads.as_slice(),
+        };
+        loaded.write_ends(&mut self.values, &mut self.pins, &mut self.ends);
     }
 
     /// Where the effect of a net ends that is forced to a value.

@@ -6,9 +6,8 @@ ghost use Rattle.ht_net.specs.Frame.{gate_output};
 ghost use Rattle.ht_net.specs.Faults.{tern_rules};
 ghost use Rattle.ht_frame.specs.Values.{env_of};
 ghost use Rattle.ht_stems.specs.ForcedNets.{with_net_value};
-ghost use Rattle.ht_stems.specs.LoadsOfNets.{AreLoads};
 ghost use Rattle.ht_stems.specs.Arrivals.{Arrives};
-ghost use Rattle.ht_stems.specs.NetEnds.{AreTableEnds, AreEndsAfter, AreNetEnds, no_ends};
+ghost use Rattle.ht_stems.specs.NetEnds.{AreEndsAfter, AreNetEnds, ArePassTables, AreTableEnds, no_ends};
 
 use crate::Arrival;
 use crate::net_ends::{NetEnds, end_in};
@@ -16,6 +15,13 @@ use crate::net_loads::NetLoads;
 use ht_frame::{MAX_GATE_PINS, gate_output};
 use ht_net::{Circuit, NetId};
 use ht_tern::Tern;
+
+/// A circuit and the loads of each of its nets.
+#[derive(Clone, Copy)]
+pub struct LoadedCircuit<'a> {
+    pub circuit: &'a Circuit,
+    pub loads: &'a [NetLoads],
+}
 
 /// What a gate gives where one net has another value. The values are the same afterwards.
 fn forced_gate_output(
@@ -49,109 +55,92 @@ pub fn has_net_value(values: &[Tern], net: NetId, value: Tern) -> bool
     values[net.index()] == value
 }
 
-// Where the effect of a net ends that is forced to a value.
-fn end(
-    circuit: &Circuit,
-    loads: &[NetLoads],
-    values: &mut [Tern],
-    pins: &mut [Tern],
-    ends: &[NetEnds],
-    net: NetId,
-    value: Tern,
-) -> Arrival
-    requires net { net.0 < net_count circuit.now }
-    requires loads { AreLoads circuit.now loads.now }
-    requires values { length values.old ≡ net_count circuit.now }
-    requires count { length ends.now ≡ net_count circuit.now }
-    requires room { length pins.old ≡ MAX_GATE_PINS }
-    requires after { AreEndsAfter circuit.now (env_of Unk values.old) loads.now ends.now net.0 }
-    ensures end { Arrives circuit.now (env_of Unk values.old) net.0 value result }
-    ensures same { values.new ≡ values.old }
-{
-    if has_net_value(values, net, value) {
-        return Arrival::Dies;
-    }
-    match loads[net.index()] {
-        NetLoads::NoLoad => Arrival::Dies,
-        NetLoads::OneGate { gate } => {
-            let output = forced_gate_output(circuit, values, pins, gate, net, value);
-            end_in(ends, circuit.gate_net(gate), output)
+impl<'a> LoadedCircuit<'a> {
+    // Where the effect of a net ends that is forced to a value.
+    fn end(
+        &self,
+        values: &mut [Tern],
+        pins: &mut [Tern],
+        ends: &[NetEnds],
+        net: NetId,
+        value: Tern,
+    ) -> Arrival
+        requires net { net.0 < net_count self.now.circuit.now }
+        requires tables { ArePassTables self.now.circuit.now self.now.loads.now values.old pins.old
+            ends.now }
+        requires after { AreEndsAfter self.now.circuit.now (env_of Unk values.old)
+            self.now.loads.now ends.now net.0 }
+        ensures end { Arrives self.now.circuit.now (env_of Unk values.old) net.0 value result }
+        ensures same { values.new ≡ values.old }
+    {
+        if has_net_value(values, net, value) {
+            return Arrival::Dies;
         }
-        NetLoads::OneDataPin { dff } => Arrival::AtLatch { dff, value },
-        NetLoads::OneOutput { output } => Arrival::AtOutput { output, value },
-        NetLoads::Several => Arrival::AtStem { net, value },
+        match self.loads[net.index()] {
+            NetLoads::NoLoad => Arrival::Dies,
+            NetLoads::OneGate { gate } => {
+                let output = forced_gate_output(self.circuit, values, pins, gate, net, value);
+                end_in(ends, self.circuit.gate_net(gate), output)
+            }
+            NetLoads::OneDataPin { dff } => Arrival::AtLatch { dff, value },
+            NetLoads::OneOutput { output } => Arrival::AtOutput { output, value },
+            NetLoads::Several => Arrival::AtStem { net, value },
+        }
     }
-}
 
-// Where the effects of one net end.
-fn ends_of(
-    circuit: &Circuit,
-    loads: &[NetLoads],
-    values: &mut [Tern],
-    pins: &mut [Tern],
-    ends: &[NetEnds],
-    net: NetId,
-) -> NetEnds
-    requires net { net.0 < net_count circuit.now }
-    requires loads { AreLoads circuit.now loads.now }
-    requires values { length values.old ≡ net_count circuit.now }
-    requires count { length ends.now ≡ net_count circuit.now }
-    requires room { length pins.old ≡ MAX_GATE_PINS }
-    requires after { AreEndsAfter circuit.now (env_of Unk values.old) loads.now ends.now net.0 }
-    ensures ends { AreNetEnds circuit.now (env_of Unk values.old) net.0 result }
-    ensures same { values.new ≡ values.old }
-{
-    let zero = end(circuit, loads, values, pins, ends, net, Tern::Zero);
-    let one = end(circuit, loads, values, pins, ends, net, Tern::One);
-    let unknown = end(circuit, loads, values, pins, ends, net, Tern::Unk);
-    NetEnds { zero, one, unknown }
-}
-
-// Writes where the effects of the gates' nets end, each after the gates that read it.
-fn write_gates(
-    circuit: &Circuit,
-    loads: &[NetLoads],
-    values: &mut [Tern],
-    pins: &mut [Tern],
-    ends: &mut [NetEnds],
-)
-    requires loads { AreLoads circuit.now loads.now }
-    requires values { length values.old ≡ net_count circuit.now }
-    requires count { length ends.old ≡ net_count circuit.now }
-    requires room { length pins.old ≡ MAX_GATE_PINS }
-    ensures ends { (g : ℕ) → g < length circuit.now.gates
-        → AreNetEnds circuit.now (env_of Unk values.old) (first_gate_net circuit.now + g)
-        (get_or ends.new (first_gate_net circuit.now + g) no_ends) }
-    ensures same { values.new ≡ values.old }
-{
-    let order = circuit.order();
-    for i in 0..order.len() {
-        let net = circuit.gate_net(order[order.len() - 1 - i]);
-        ends[net.index()] = ends_of(circuit, loads, values, pins, ends, net);
+    // Where the effects of one net end.
+    fn ends_of(
+        &self,
+        values: &mut [Tern],
+        pins: &mut [Tern],
+        ends: &[NetEnds],
+        net: NetId,
+    ) -> NetEnds
+        requires net { net.0 < net_count self.now.circuit.now }
+        requires tables { ArePassTables self.now.circuit.now self.now.loads.now values.old pins.old
+            ends.now }
+        requires after { AreEndsAfter self.now.circuit.now (env_of Unk values.old)
+            self.now.loads.now ends.now net.0 }
+        ensures ends { AreNetEnds self.now.circuit.now (env_of Unk values.old) net.0 result }
+        ensures same { values.new ≡ values.old }
+    {
+        let zero = self.end(values, pins, ends, net, Tern::Zero);
+        let one = self.end(values, pins, ends, net, Tern::One);
+        let unknown = self.end(values, pins, ends, net, Tern::Unk);
+        NetEnds { zero, one, unknown }
     }
-}
 
-/// Writes where the effects of all nets end, each gate evaluated twice at most for each net that only it reads. What
-/// `ends` and `pins` held before plays no part; the values are the same afterwards.
-pub fn write_ends(
-    circuit: &Circuit,
-    loads: &[NetLoads],
-    values: &mut [Tern],
-    pins: &mut [Tern],
-    ends: &mut [NetEnds],
-)
-    requires loads { AreLoads circuit.now loads.now }
-    requires values { length values.old ≡ net_count circuit.now }
-    requires count { length ends.old ≡ net_count circuit.now }
-    requires room { length pins.old ≡ MAX_GATE_PINS }
-    ensures ends { AreTableEnds circuit.now (env_of Unk values.old) ends.new }
-    ensures same { values.new ≡ values.old }
-{
-    // for the proof: the circuit is well formed
-    let _ = circuit.nets();
-    write_gates(circuit, loads, values, pins, ends);
-    for source in 0..circuit.inputs() + circuit.dffs() {
-        let net = NetId(source);
-        ends[net.index()] = ends_of(circuit, loads, values, pins, ends, net);
+    // Writes where the effects of the gates' nets end, each after the gates that read it.
+    fn write_gates(&self, values: &mut [Tern], pins: &mut [Tern], ends: &mut [NetEnds])
+        requires tables { ArePassTables self.now.circuit.now self.now.loads.now values.old pins.old
+            ends.old }
+        ensures ends { (g : ℕ) → g < length self.now.circuit.now.gates
+            → AreNetEnds self.now.circuit.now (env_of Unk values.old)
+            (first_gate_net self.now.circuit.now + g)
+            (get_or ends.new (first_gate_net self.now.circuit.now + g) no_ends) }
+        ensures same { values.new ≡ values.old }
+    {
+        let order = self.circuit.order();
+        for i in 0..order.len() {
+            let net = self.circuit.gate_net(order[order.len() - 1 - i]);
+            ends[net.index()] = self.ends_of(values, pins, ends, net);
+        }
+    }
+
+    /// Writes where the effects of all nets end, each gate evaluated twice at most for each net that only it reads. What
+    /// `ends` and `pins` held before plays no part; the values are the same afterwards.
+    pub fn write_ends(&self, values: &mut [Tern], pins: &mut [Tern], ends: &mut [NetEnds])
+        requires tables { ArePassTables self.now.circuit.now self.now.loads.now values.old pins.old
+            ends.old }
+        ensures ends { AreTableEnds self.now.circuit.now (env_of Unk values.old) ends.new }
+        ensures same { values.new ≡ values.old }
+    {
+        // for the proof: the circuit is well formed
+        let _ = self.circuit.nets();
+        self.write_gates(values, pins, ends);
+        for source in 0..self.circuit.inputs() + self.circuit.dffs() {
+            let net = NetId(source);
+            ends[net.index()] = self.ends_of(values, pins, ends, net);
+        }
     }
 }

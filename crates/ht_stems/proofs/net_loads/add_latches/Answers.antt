@@ -1,8 +1,6 @@
-use Rattle.std.proofs.Common.{◌≡◌, ◌<◌, length, get_or, refl, sym, ap, arith}
-use Rattle.ht_net.specs.declared.net.NetId.{NetId}
-use Rattle.ht_net.specs.Netlist.{no_net}
+use Rattle.std.proofs.Common.{◌<◌, length, refl, arith}
 use Rattle.ht_stems.specs.declared.net_loads.NetLoads.TheVariants.{OneDataPin}
-use Rattle.ht_stems.proofs.CountLaws.{counted_none, counted_all, counted_more}
+use Rattle.ht_stems.proofs.CountLaws.{counted_all, counted_none, entries_left, place_counted}
 use Rattle.ht_stems.proofs.net_loads.add_latches.Goals as goal
 
 pub loop-dff-init : goal.loop-dff-init
@@ -10,16 +8,12 @@ loop-dff-init c = counted_none c.args.circuit.now c.args.table.now c.args.circui
 
 pub loop-dff-preserved : goal.loop-dff-preserved
 loop-dff-preserved c =
-    let inside : c.loop-dff.dff < length c.args.circuit.now.dffs =
-    omega (arith, c.loop-dff-test.true, c.dffs-dff-end.ensures) in
-    let at : (get_or c.args.circuit.now.dffs c.loop-dff.dff no_net).0 ≡ c.dff_data.result.0 =
-    ap (λ (d : NetId). d.0) (sym c.dff_data.ensures) in
-    let known = c.requires.circuit.data_known c.loop-dff.dff inside in
-    counted_more c.args.circuit.now c.args.table.now c.loop-dff.table c.add_load.new.table c.args.circuit.now.dffs
-    c.loop-dff.dff c.dff_data.result (OneDataPin c.loop-dff.dff) c.add_load.ensures inside at
-    (omega (arith, known, at, c.loop-dff.auto.table, c.requires.count)) (refl, inside, at) c.loop-dff.invariant
+    let inside : c.loop-dff.dff < length c.args.circuit.now.dffs = omega (arith, c.loop-dff-test.true, c.dffs-dff-end.ensures) in
+    place_counted c.args.circuit.now c.args.table.now c.loop-dff.table c.add_load.new.table c.args.circuit.now.dffs
+    c.loop-dff.dff c.dff_data.result (OneDataPin c.loop-dff.dff) (entries_left c.requires (omega (arith, c.loop-dff.auto.table)))
+    c.add_load.ensures inside c.dff_data.ensures (c.requires.circuit.data_known c.loop-dff.dff inside)
+    (λ at. (refl, inside, at)) c.loop-dff.invariant
 
 pub returns : goal.returns
 returns c = counted_all c.args.circuit.now c.args.table.now c.loop-dff.table c.args.circuit.now.dffs
-    c.args.circuit.now.dffs c.loop-dff.dff (omega (arith, c.loop-dff-test.false, c.dffs-dff-end.ensures)) refl
-    c.loop-dff.invariant
+    c.args.circuit.now.dffs c.loop-dff.dff (omega (arith, c.loop-dff-test.false, c.dffs-dff-end.ensures)) refl c.loop-dff.invariant

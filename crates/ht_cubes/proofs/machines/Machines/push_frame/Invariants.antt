@@ -2,16 +2,16 @@ use Rattle.std.proofs.Common.{◌≡◌, ◌++◌}
 use Rattle.std.specs.List.{flat_map, range_with_len}
 use Rattle.ht_cubes.specs.Cones.{marked}
 use Rattle.ht_cubes.specs.Formula.{both_clauses, input_clauses, latch_clauses}
-use Rattle.ht_cubes.proofs.frame.push_frame.Given as goal
+use Rattle.ht_cubes.proofs.machines.Machines.push_frame.Given as goal
 
 abbrev pub invariant-inputs : goal.invariant-inputs
 invariant-inputs l = l.rows ≡ l.initial.rows
-    ++ flat_map (input_clauses l.circuit (marked l.cone)) (range_with_len 0 l.x)
+    ++ flat_map (input_clauses l.self.circuit.now (marked l.self.cone.now)) (range_with_len 0 l.x)
 
 abbrev pub invariant-latches : goal.invariant-latches
 invariant-latches l = l.rows ≡ l.initial.rows
-    ++ flat_map (latch_clauses l.circuit (marked l.cone)) (range_with_len 0 l.j)
+    ++ flat_map (latch_clauses l.self.circuit.now (marked l.self.cone.now)) (range_with_len 0 l.j)
 
 abbrev pub invariant-gates : goal.invariant-gates
 invariant-gates l = l.rows ≡ l.initial.rows
-    ++ flat_map (both_clauses l.circuit l.fault (marked l.cone)) (range_with_len 0 l.g)
+    ++ flat_map (both_clauses l.self.circuit.now l.self.fault (marked l.self.cone.now)) (range_with_len 0 l.g)

@@ -7,16 +7,18 @@ use Rattle.ht_cubes.specs.Cones.{marked}
 use Rattle.ht_cubes.specs.Formula.{may_come, output_targets, next_target}
 use Rattle.ht_cubes.proofs.PieceLaws.{filtered_more}
 use Rattle.ht_cubes.proofs.TargetLaws.{read_row, row_holds, filtered_on, filtered_all}
-use Rattle.ht_cubes.proofs.targets.all_targets.Goals as goal
+use Rattle.ht_cubes.proofs.machines.Machines.all_targets.Goals as goal
 
 pub push_next-requires-clause-known : goal.push_next-requires-clause-known
 push_next-requires-clause-known c =
-    row_holds (All (IsKnownRail c.args.circuit.now (marked c.args.cone.now))) c.args.cubes.now c.cubes.cube-index
+    row_holds (All (IsKnownRail c.args.self.now.circuit.now (marked c.args.self.now.cone.now))) c.args.cubes.now
+    c.cubes.cube-index
     c.cube-item.result c.as_slice.result.now c.cubes-test.true c.cube-item.is c.as_slice.ensures c.requires.known
 
 pub cubes-preserved : goal.cubes-preserved
 cubes-preserved c =
-    filtered_on may_come (next_target c.args.circuit.now c.args.fault (marked c.args.cone.now)) c.args.cubes.now
+    filtered_on may_come (next_target c.args.self.now.circuit.now c.args.self.now.fault
+    (marked c.args.self.now.cone.now)) c.args.cubes.now
     c.cubes.cube-index [] c.as_slice.result.now c.cubes.rows c.push_next.new.rows c.cubes-test.true
     (read_row c.args.cubes.now c.cubes.cube-index c.cube-item.result c.as_slice.result.now c.cubes-test.true
     c.cube-item.is c.as_slice.ensures) c.cubes.invariant c.in_ok-push_next.ensures
@@ -24,9 +26,10 @@ cubes-preserved c =
 pub places-preserved : goal.places-preserved
 places-preserved c =
     let e = c.outputs-o-end.ensures in
-    let f = output_targets c.args.circuit.now c.args.fault (marked c.args.cone.now) in
-    let inside : c.places.o < length c.args.circuit.now.outputs = omega (arith, e, c.places-test.true) in
-    filtered_more may_come f c.cubes.rows c.places.rows c.push_output.new.rows c.args.circuit.now.outputs c.places.o
+    let f = output_targets c.args.self.now.circuit.now c.args.self.now.fault (marked c.args.self.now.cone.now) in
+    let inside : c.places.o < length c.args.self.now.circuit.now.outputs = omega (arith, e, c.places-test.true) in
+    filtered_more may_come f c.cubes.rows c.places.rows c.push_output.new.rows c.args.self.now.circuit.now.outputs
+    c.places.o
     no_net inside c.places.invariant
     (c.in_ok-push_output.ensures
     ∙ ap (λ (x : NetId). c.places.rows ++ filter may_come (f x)) c.output-output.ensures)
@@ -34,7 +37,9 @@ places-preserved c =
 pub returns : goal.returns
 returns c =
     let e = c.outputs-o-end.ensures in
-    filtered_all may_come (next_target c.args.circuit.now c.args.fault (marked c.args.cone.now))
-    (output_targets c.args.circuit.now c.args.fault (marked c.args.cone.now)) c.args.cubes.now
-    c.args.circuit.now.outputs c.cubes.cube-index c.places.o c.cubes.rows c.places.rows
+    filtered_all may_come (next_target c.args.self.now.circuit.now c.args.self.now.fault
+    (marked c.args.self.now.cone.now))
+    (output_targets c.args.self.now.circuit.now c.args.self.now.fault (marked c.args.self.now.cone.now))
+    c.args.cubes.now
+    c.args.self.now.circuit.now.outputs c.cubes.cube-index c.places.o c.cubes.rows c.places.rows
     (omega (arith, c.cubes-test.false)) (omega (arith, e, c.places-test.false)) c.cubes.invariant c.places.invariant

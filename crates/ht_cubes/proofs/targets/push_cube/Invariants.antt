@@ -1,7 +1,0 @@
-use Rattle.std.proofs.Common.{◌≡◌, take}
-use Rattle.ht_cubes.specs.Cones.{marked}
-use Rattle.ht_cubes.specs.Formula.{cube_clause}
-use Rattle.ht_cubes.proofs.targets.push_cube.Given as goal
-
-abbrev pub invariant-rails : goal.invariant-rails
-invariant-rails l = l.clause.items ≡ cube_clause l.circuit (marked l.cone) (take l.rail-index l.cube)
