@@ -1,14 +1,11 @@
-use Rattle.std.proofs.Common.{rules, ◌≡◌, Bool, List, sym, subst}
-use Rattle.ht_net.specs.DraftOf.{Fields, fields_of, AreKept}
+use Rattle.std.proofs.Common.{rules, ◌≡◌}
 use Rattle.ht_net.proofs.KeptLaws.{named_more, kept_draft}
 use Rattle.ht_net.proofs.AddedLaws.{name_added}
 use Rattle.ht_net.proofs.builder.Builder.add_name.Goals as goal
 
 pub invariant_of-self : goal.invariant_of-self
 invariant_of-self c =
-    let fields : Fields = fields_of c.self.inside in
-    let same : c.push.new.self.items ≡ fields.driven = search rules in
-    subst (λ (l : List Bool). AreKept (record fields { driven = l })) (sym same) c.self.invariant
+    let same : c.push.new.self.items ≡ c.self.inside.driven.items = search rules in rw same c.self.invariant
 
 pub invariant_of-self-else-is_err : goal.invariant_of-self-else-is_err
 invariant_of-self-else-is_err c = name_added c.self.invariant c.self.view_is c.args.name.now _ _ c.requires.new
