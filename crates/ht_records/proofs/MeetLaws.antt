@@ -28,9 +28,13 @@ left_against bit b (Some v) (inl e) h =
     ∙ not-true (is_decided_to bit (Some v)) h)
 left_against bit b (Some v) (inr m) h = absurd m
 
+-- a literal of the circuit's flip-flops
+abbrev pub IsLiteralOf : Netlist → Literal → Type 0
+IsLiteralOf c literal = literal.dff < length c.dffs
+
 -- a path leaves a state: the latches may have its bits
 abbrev pub Leaves : Netlist → List Assign3 → List Bool → Type 0
-Leaves c path state = (literal : Literal) → literal.dff < length c.dffs
+Leaves c path state = (literal : Literal) → IsLiteralOf c literal
     → IsMember (tern_of (get_or state literal.dff false)) (values_left (latch_value c path literal))
 
 module _ (c : Netlist) (path : List Assign3) (state : List Bool) (leaves : Leaves c path state) where
@@ -38,13 +42,11 @@ module _ (c : Netlist) (path : List Assign3) (state : List Bool) (leaves : Leave
       → meets state literals ≡ false
   broken_unmet [] known h = refl
   broken_unmet (l ∷ literals) known h =
-      let against : Literal → Bool = λ l. is_decided_against l.value (latch_value c path l) in
-      let inside : Literal → Type 0 = λ l. l.dff < length c.dffs in
-      let parts = and_parts (against l) (list_all against literals) h in
+      let parts = and_parts (is_decided_against l.value (latch_value c path l)) (path_breaks c path literals) h in
       or_from (meets_literal state l) (meets state literals)
       (left_against l.value (get_or state l.dff false) (latch_value c path l)
-      (leaves l (All-head inside l literals known)) parts.0)
-      (broken_unmet literals (All-tail inside l literals known) parts.1)
+      (leaves l (All-head (IsLiteralOf c) l literals known)) parts.0)
+      (broken_unmet literals (All-tail (IsLiteralOf c) l literals known) parts.1)
 
   pub none_broken : (clauses : List (List Literal)) → AreKnownClauses c clauses → meets_each clauses state ≡ true
       → list_any (path_breaks c path) clauses ≡ true → ⊥
@@ -58,7 +60,7 @@ module _ (c : Netlist) (path : List Assign3) (state : List Bool) (leaves : Leave
 
 -- a state has the bits that a path decided for the literals' latches
 abbrev pub Follows : Netlist → List Assign3 → List Bool → Type 0
-Follows c path state = (literal : Literal) → literal.dff < length c.dffs → (b : Bool)
+Follows c path state = (literal : Literal) → IsLiteralOf c literal → (b : Bool)
     → is_decided_to b (latch_value c path literal) ≡ true → get_or state literal.dff false ≡ b
 
 is_itself : (bit b : Bool) → b ≡ bit → is_bit bit b ≡ true
@@ -70,13 +72,11 @@ module _ (c : Netlist) (path : List Assign3) (state : List Bool) (follows : Foll
       → meets state literals ≡ true
   met_literal [] known h = cc
   met_literal (l ∷ literals) known h =
-      let towards : Literal → Bool = λ l. is_decided_to l.value (latch_value c path l) in
-      let inside : Literal → Type 0 = λ l. l.dff < length c.dffs in
-      elim (or_cases (towards l) (list_any towards literals) h) [
+      elim (or_cases (is_decided_to l.value (latch_value c path l)) (path_meets c path literals) h) [
         | inl e ↦ or_left (meets_literal state l) (meets state literals)
-            (is_itself l.value (get_or state l.dff false) (follows l (All-head inside l literals known) l.value e))
+            (is_itself l.value (get_or state l.dff false) (follows l (All-head (IsLiteralOf c) l literals known) l.value e))
         | inr e ↦ or_right (meets_literal state l) (meets state literals)
-            (met_literal literals (All-tail inside l literals known) e)
+            (met_literal literals (All-tail (IsLiteralOf c) l literals known) e)
       ]
 
   pub each_met : (clauses : List (List Literal)) → AreKnownClauses c clauses
@@ -91,13 +91,12 @@ module _ (c : Netlist) (path : List Assign3) (state : List Bool) (follows : Foll
 -- the literals of a clause of the circuit are the circuit's
 second_known : (c : Netlist) (first : ℕ) (second : Option Literal) → IsSecond c first second
     → AreKnown c (second_of second)
-second_known c first None h = All-nil (λ (l : Literal). l.dff < length c.dffs)
-second_known c first (Some l) h =
-    All-cons (λ (l : Literal). l.dff < length c.dffs) l [] h.1 (All-nil (λ (l : Literal). l.dff < length c.dffs))
+second_known c first None h = All-nil (IsLiteralOf c)
+second_known c first (Some l) h = All-cons (IsLiteralOf c) l [] h.1 (All-nil (IsLiteralOf c))
 
 pub clause_known : (c : Netlist) (clause : Clause) → IsClause c clause → AreKnown c (literals_of clause)
 clause_known c clause is =
-    All-cons (λ (l : Literal). l.dff < length c.dffs) clause.first (second_of clause.second) is.first
+    All-cons (IsLiteralOf c) clause.first (second_of clause.second) is.first
     (second_known c clause.first.dff clause.second is.second)
 
 pub clauses_known : (c : Netlist) (clauses : List Clause) → All (IsClause c) clauses

@@ -32,25 +32,6 @@ fn take(frame_plan: &FramePlan, offset: u32, distances: &mut Distances) -> Resul
     Ok(())
 }
 
-// Follows a net to what reads it.
-fn follow_readers(
-    frame_plan: &FramePlan,
-    net: u32,
-    distances: &mut Distances,
-) -> Result<(), AllocError>
-    requires net { net < net_count frame_plan.now.circuit }
-    requires count { length distances.old.numbers ≡ net_count frame_plan.now.circuit }
-    ensures grown { OnOk result (HasGrown distances.old distances.new) }
-    ensures followed { OnOk result (IsFollowed frame_plan.now.circuit Readers distances.new net) }
-{
-    // for the proof: the circuit is well formed
-    let _ = frame_plan.items();
-    for offset in frame_plan.load_offsets(NetId(net)) {
-        take(frame_plan, *offset, distances)?;
-    }
-    Ok(())
-}
-
 // Follows a gate to what it reads.
 fn put_arguments(circuit: &Circuit, g: u32, distances: &mut Distances) -> Result<(), AllocError>
     requires gate { g < length circuit.now.gates }
@@ -105,7 +86,14 @@ pub fn follow(
     ensures followed { OnOk result (IsFollowed frame_plan.now.circuit way distances.new net) }
 {
     match way {
-        Way::Readers => follow_readers(frame_plan, net, distances),
         Way::Drivers => follow_drivers(frame_plan.circuit(), net, distances),
+        Way::Readers => {
+            // for the proof: the circuit is well formed
+            let _ = frame_plan.items();
+            for offset in frame_plan.load_offsets(NetId(net)) {
+                take(frame_plan, *offset, distances)?;
+            }
+            Ok(())
+        },
     }
 }

@@ -1,11 +1,10 @@
-use Rattle.std.proofs.Common.{◌≡◌, ◌∙◌, ◌≤◌, ◌+◌, ℕ, true, false, get_or, subst, arith}
-use Rattle.ht_relevant.specs.Distances.{number_of}
+use Rattle.std.proofs.Common.{◌≡◌, ◌∙◌, ◌+◌, ℕ, true, false, get_or, ap, arith}
 use Rattle.ht_relevant.proofs.PutLaws.{none_put, one_more_put}
 use Rattle.ht_relevant.proofs.away.begin_latches.Goals as goal
 
 pub loop-j-init : goal.loop-j-init
 loop-j-init c = none_put c.args.away.now (λ k. c.args.circuit.now.inputs + k)
-    (λ k. get_or c.args.apart.now k false ≡ true)
+    (λ k x. get_or c.args.apart.now k false ≡ true)
 
 pub put_if-requires : goal.put_if-requires
 put_if-requires c =
@@ -19,11 +18,9 @@ put_if-requires c =
 pub loop-j-preserved : goal.loop-j-preserved
 loop-j-preserved c =
     let j = c.loop-j.j in
-    let e = c.in_ok-put_if.ensures in
-    one_more_put c.args.away.now (λ k. c.args.circuit.now.inputs + k) (λ k. get_or c.args.apart.now k false ≡ true)
-    c.loop-j.away c.put_if.new.self j c.loop-j.invariant e.grown
-    (λ is. subst (λ (i : ℕ). number_of c.put_if.new.self (i + j) ≤ c.put_if.new.self.distance) c.inputs-inputs.ensures
-    (e.put (c.is_set.ensures ∙ is)))
+    one_more_put c.args.away.now (λ k. c.args.circuit.now.inputs + k) (λ k x. get_or c.args.apart.now k false ≡ true)
+    c.loop-j.away c.put_if.new.self j (c.inputs-inputs.result + j) c.loop-j.invariant c.in_ok-put_if.ensures.grown
+    (ap (λ (i : ℕ). i + j) c.inputs-inputs.ensures) (λ is. c.in_ok-put_if.ensures.put (c.is_set.ensures ∙ is))
 
 pub returns-clause-begun : goal.returns-clause-begun
 returns-clause-begun c = λ j js is.

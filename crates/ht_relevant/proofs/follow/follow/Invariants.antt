@@ -1,7 +1,7 @@
 use Rattle.std.proofs.Common.{◌<◌, ℕ, [], get_or}
 use Rattle.ht_relevant.specs.Distances.{HasGrown}
 use Rattle.ht_relevant.specs.Offsets.{IsTaken}
-use Rattle.ht_relevant.proofs.follow.follow_readers.Given as goal
+use Rattle.ht_relevant.proofs.follow.follow.Given as goal
 
 abbrev pub invariant-loop-offset : goal.invariant-loop-offset
 invariant-loop-offset l = record {

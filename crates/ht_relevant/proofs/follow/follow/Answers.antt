@@ -2,10 +2,12 @@ use Rattle.std.proofs.Common.{◌≡◌, ◌≢◌, ◌<◌, ℕ, List, [], leng
 use Rattle.std.proofs.lemmas.Bool.Decides.{eqb_tells}
 use Rattle.std.proofs.lemmas.List.Elements.{Contains-get_or}
 use Rattle.ht_events.proofs.ItemLaws.{reads_known}
+use Rattle.ht_relevant.specs.declared.way.Way.{Way}
+use Rattle.ht_relevant.specs.Distances.{IsFollowed}
 use Rattle.ht_relevant.specs.Offsets.{IsTaken}
 use Rattle.ht_relevant.proofs.DistanceLaws.{grown_same, grown_more}
 use Rattle.ht_relevant.proofs.TakenLaws.{offset_small, readers_followed, taken_grown}
-use Rattle.ht_relevant.proofs.follow.follow_readers.Goals as goal
+use Rattle.ht_relevant.proofs.follow.follow.Goals as goal
 
 pub loop-offset-init : goal.loop-offset-init
 loop-offset-init c = record {
@@ -41,7 +43,7 @@ loop-offset-preserved c =
     let row = get_or p.readers c.args.net [] in
     let same : get_or c.load_offsets-offset-items.result.now i 0 ≡ get_or row i 0 =
     ap (λ (xs : List ℕ). get_or xs i 0) c.load_offsets-offset-items.ensures.offsets in
-    let e = c.in_ok-take.ensures in
+    let e = c.in_ok-take-in-Readers.ensures in
     record {
       grown = grown_more c.args.distances.now c.loop-offset.distances c.take.new.distances c.loop-offset.invariant.grown
           e.grown;
@@ -55,10 +57,12 @@ loop-offset-preserved c =
       ];
     }
 
-pub returns-clause-followed : goal.returns-clause-followed
-returns-clause-followed c =
+pub returns-after-loop-offset-clause-followed : goal.returns-after-loop-offset-clause-followed
+returns-after-loop-offset-clause-followed c =
     let e = c.load_offsets-offset-items.ensures in
     let n = ap (λ (xs : List ℕ). length xs) e.offsets in
     let test = c.loop-offset-test.false in
-    readers_followed c.args.frame_plan.now c.loop-offset.distances c.args.net e.table
-    (λ k less. c.loop-offset.invariant.taken k (omega (arith, n, test, less)))
+    let P : Way → Type 0 = λ way. IsFollowed c.args.frame_plan.now.circuit way c.loop-offset.distances c.args.net in
+    subst P (sym c.in-Readers.is)
+    (readers_followed c.args.frame_plan.now c.loop-offset.distances c.args.net e.table
+    (λ k less. c.loop-offset.invariant.taken k (omega (arith, n, test, less))))
