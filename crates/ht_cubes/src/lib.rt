@@ -8,8 +8,8 @@
 //! (`specs/Passing.antt`), and then no list of vectors of any length detects the fault, from the start or from
 //! all-unknown (`passing_cubes_exclude_detection`).
 //!
-//! `cone` finds the nets that differ at all, `lines`, `gates`, `parity`, `frame` and `targets` make the parts of the
-//! formula, `standing` and `steps` follow the proof.
+//! `cone` finds the nets that differ at all, and `machines` has them with the circuit and the fault. `lines`, `gates`,
+//! `parity`, `frame` and `targets` make the parts of the formula, `standing` and `steps` follow the proof.
 #![tactic(auto)]
 
 mod clause_step;

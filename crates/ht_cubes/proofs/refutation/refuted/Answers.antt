@@ -1,4 +1,4 @@
-use Rattle.std.proofs.Common.{◌≡◌, List, Bool, true, false, sym, subst}
+use Rattle.std.proofs.Common.{◌≡◌, List, Bool, false, sym, subst}
 use Rattle.std.specs.Prelude.{◌↔◌, IsTrue}
 use Rattle.std.proofs.lemmas.Bool.{both_ways, false≢true}
 use Rattle.ht_net.specs.declared.fault.Fault.{Fault}

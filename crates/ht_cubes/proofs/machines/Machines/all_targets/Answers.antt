@@ -12,14 +12,14 @@ use Rattle.ht_cubes.proofs.machines.Machines.all_targets.Goals as goal
 pub push_next-requires-clause-known : goal.push_next-requires-clause-known
 push_next-requires-clause-known c =
     row_holds (All (IsKnownRail c.args.self.now.circuit.now (marked c.args.self.now.cone.now))) c.args.cubes.now
-    c.cubes.cube-index
-    c.cube-item.result c.as_slice.result.now c.cubes-test.true c.cube-item.is c.as_slice.ensures c.requires.known
+    c.cubes.cube-index c.cube-item.result c.as_slice.result.now c.cubes-test.true c.cube-item.is c.as_slice.ensures
+    c.requires.known
 
 pub cubes-preserved : goal.cubes-preserved
 cubes-preserved c =
     filtered_on may_come (next_target c.args.self.now.circuit.now c.args.self.now.fault
-    (marked c.args.self.now.cone.now)) c.args.cubes.now
-    c.cubes.cube-index [] c.as_slice.result.now c.cubes.rows c.push_next.new.rows c.cubes-test.true
+    (marked c.args.self.now.cone.now)) c.args.cubes.now c.cubes.cube-index [] c.as_slice.result.now c.cubes.rows
+    c.push_next.new.rows c.cubes-test.true
     (read_row c.args.cubes.now c.cubes.cube-index c.cube-item.result c.as_slice.result.now c.cubes-test.true
     c.cube-item.is c.as_slice.ensures) c.cubes.invariant c.in_ok-push_next.ensures
 
@@ -29,8 +29,7 @@ places-preserved c =
     let f = output_targets c.args.self.now.circuit.now c.args.self.now.fault (marked c.args.self.now.cone.now) in
     let inside : c.places.o < length c.args.self.now.circuit.now.outputs = omega (arith, e, c.places-test.true) in
     filtered_more may_come f c.cubes.rows c.places.rows c.push_output.new.rows c.args.self.now.circuit.now.outputs
-    c.places.o
-    no_net inside c.places.invariant
+    c.places.o no_net inside c.places.invariant
     (c.in_ok-push_output.ensures
     ∙ ap (λ (x : NetId). c.places.rows ++ filter may_come (f x)) c.output-output.ensures)
 
@@ -40,6 +39,5 @@ returns c =
     filtered_all may_come (next_target c.args.self.now.circuit.now c.args.self.now.fault
     (marked c.args.self.now.cone.now))
     (output_targets c.args.self.now.circuit.now c.args.self.now.fault (marked c.args.self.now.cone.now))
-    c.args.cubes.now
-    c.args.self.now.circuit.now.outputs c.cubes.cube-index c.places.o c.cubes.rows c.places.rows
+    c.args.cubes.now c.args.self.now.circuit.now.outputs c.cubes.cube-index c.places.o c.cubes.rows c.places.rows
     (omega (arith, c.cubes-test.false)) (omega (arith, e, c.places-test.false)) c.cubes.invariant c.places.invariant

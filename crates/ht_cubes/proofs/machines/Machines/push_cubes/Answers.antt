@@ -11,8 +11,8 @@ use Rattle.ht_cubes.proofs.machines.Machines.push_cubes.Goals as goal
 pub push_cube-requires-clause-known : goal.push_cube-requires-clause-known
 push_cube-requires-clause-known c =
     row_holds (All (IsKnownRail c.args.self.now.circuit.now (marked c.args.self.now.cone.now))) c.args.cubes.now
-    c.cubes.cube-index
-    c.cube-item.result c.as_slice.result.now c.cubes-test.true c.cube-item.is c.as_slice.ensures c.requires.known
+    c.cubes.cube-index c.cube-item.result c.as_slice.result.now c.cubes-test.true c.cube-item.is c.as_slice.ensures
+    c.requires.known
 
 pub cubes-preserved : goal.cubes-preserved
 cubes-preserved c =
