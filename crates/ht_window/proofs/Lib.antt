@@ -1,6 +1,8 @@
 pub mod NodeLaws
 pub mod TrialLaws
+pub mod AloneLaws
 pub mod StartLaws
+pub mod MarkedLaws
 pub mod RestrictLaws
 pub mod PlaceLaws
 pub mod ReaderLaws
@@ -21,5 +23,5 @@ pub mod UndecidedLaws
 pub mod DecideLaws
 pub mod FollowLaws
 pub mod AllSetsLaws
-pub mod TurnLaws
+pub mod OtherFaultLaws
 pub mod RenewLaws

@@ -17,7 +17,7 @@ use Rattle.ht_relevant.specs.Relevant.{IsClosedBack}
 use Rattle.ht_window.specs.Matters.{is_relevant}
 use Rattle.ht_window.specs.Holding.{HeldState, MayHold, item_agrees, KeepsHeld}
 use Rattle.ht_relevant.specs.Reached.{begins_at}
-use Rattle.ht_window.specs.Turns.{HoldsOrPends, IsRenewed, HoldsElsewhere}
+use Rattle.ht_window.specs.Renewals.{IsPlanFor, HoldsOrPends, IsRenewed, HoldsElsewhere}
 use Rattle.std.specs.Prelude.{Option}
 use Rattle.ht_window.proofs.PlaceLaws.{this_or_other}
 use Rattle.ht_window.proofs.ItemNetLaws.{item_net}
@@ -36,15 +36,14 @@ renewed_more s t u a b d h k = record {
 }
 
 -- the plan is still that of the window's frames
-pub plan_renewed : (s t : CoreState) (a b : HeldState) → IsRenewed s a t b
-    → s.plan.circuit ≡ a.standing.window.circuit → s.plan.frames ≡ a.standing.window.frames
-    → (t.plan.circuit ≡ b.standing.window.circuit) × (t.plan.frames ≡ b.standing.window.frames)
-plan_renewed s t a b h circuit frames = (
-  ap (λ (p : PlanState). p.circuit) h.plan
-      ∙ (circuit ∙ sym (ap (λ (n : Standing). n.window.circuit) h.standing)),
-  ap (λ (p : PlanState). p.frames) h.plan
-      ∙ (frames ∙ sym (ap (λ (n : Standing). n.window.frames) h.standing)),
-)
+pub plan_renewed : (s t : CoreState) (a b : HeldState) → IsRenewed s a t b → IsPlanFor s.plan a.standing.window
+    → IsPlanFor t.plan b.standing.window
+plan_renewed s t a b h plan = record {
+  circuit = ap (λ (p : PlanState). p.circuit) h.plan
+      ∙ (plan.circuit ∙ sym (ap (λ (n : Standing). n.window.circuit) h.standing));
+  frames = ap (λ (p : PlanState). p.frames) h.plan
+      ∙ (plan.frames ∙ sym (ap (λ (n : Standing). n.window.frames) h.standing));
+}
 
 -- Nets are renewed one by one, the first n of them so far: net `net k` of frame `frame k`.
 pub record AreRenewed (s : CoreState) (a : HeldState) (t : CoreState) (b : HeldState) (frame net : ℕ → ℕ) (n : ℕ)
@@ -157,13 +156,13 @@ all_renewed s t a b before elsewhere renewed old new latches f x fs xs =
 -- where all nets hold what they get or are pending, and then none is pending, every cell is that of the decisions
 pub all_followed : (t u : CoreState) (b d : HeldState) → IsWindow b.standing.window
     → IsClosedBack b.standing.window.circuit b.standing.window.frames (is_relevant b.relevant)
-    → t.plan.circuit ≡ b.standing.window.circuit → t.plan.frames ≡ b.standing.window.frames → u.plan ≡ t.plan
+    → IsPlanFor t.plan b.standing.window → u.plan ≡ t.plan
     → ((f x : ℕ) → f < b.standing.window.frames → x < net_count b.standing.window.circuit → HoldsOrPends t b f x)
     → KeepsHeld b d → (QuietAgree t (item_agrees b) → QuietAgree u (item_agrees d))
     → ((y : ℕ) → y < core_items t → ¬ IsPending u y)
     → AreCells b.standing.window (is_relevant b.relevant) b.standing.path d.cells.values
-all_followed t u b d valid closed circuit frames plan all kept agree none =
-    settled_cells b d valid closed kept inputs (settled_all t u w b d plan circuit frames quiet agree none) where
+all_followed t u b d valid closed planned plan all kept agree none =
+    settled_cells b d valid closed kept inputs (settled_all t u w b d plan planned.circuit planned.frames quiet agree none) where
       w : SearchWindow
       w = b.standing.window
 
@@ -175,7 +174,7 @@ all_followed t u b d valid closed circuit frames plan all kept agree none =
       quiet y ys free =
           let c = b.standing.window.circuit in
           let known : y < item_count c b.standing.window.frames = subst (λ (n : ℕ). y < n)
-          (λ i. item_count (circuit i) (frames i)) ys in
+          (λ i. item_count (planned.circuit i) (planned.frames i)) ys in
           let n = item_net c b.standing.window.frames y known in
           all (frame_of c y) (driven_net c (local_of c y)) n.frame n.net
           (λ at pends. free (subst (λ (k : ℕ). IsPending t k) n.is pends))

@@ -1,15 +1,22 @@
 -- Windows from which others are made.
-use Rattle.std.specs.Prelude.{◌≡◌, ◌≤◌, ℕ, [], Option, None}
+use Rattle.std.specs.Prelude.{◌≡◌, ◌≤◌, [], None}
 use Rattle.std.specs.List.{All}
 use Rattle.ht_net.specs.Netlist.{Netlist}
-use Rattle.ht_net.specs.declared.fault.Fault.{Fault}
-use Rattle.ht_tree.specs.Windows.{Start, IsStart}
+use Rattle.ht_tree.specs.Windows.{SearchWindow, IsStart}
+use Rattle.ht_window.specs.Starts.{start_of}
 use Rattle.ht_window.specs.States.{WindowState}
+use Rattle.ht_window.specs.declared.setup.Setup.{Setup}
 use Rattle.ht_window.specs.declared.bases.Bases.TheInside.{Inside}
 
 -- What contracts see of bases: their circuit.
 pub record BasesState : Type 0 where
   pub circuit : Netlist
+
+-- Window v before its first decision.
+pub record IsNew (v : SearchWindow) (w : WindowState) : Type 0 where
+  pub window : w.window ≡ v
+  pub decisions : w.decisions ≡ []
+  pub marks : w.marks ≡ []
 
 -- a window of the circuit before its first decision in which all nets matter
 pub record IsBase (c : Netlist) (w : WindowState) : Type 0 where
@@ -17,12 +24,19 @@ pub record IsBase (c : Netlist) (w : WindowState) : Type 0 where
   pub decisions : w.decisions ≡ []
   pub whole : w.relevant ≡ None
 
--- a base whose first frames are a window, and which as a whole may have a start that these frames may have
-pub record IsBaseFor (c : Netlist) (frames : ℕ) (start : Start) (w : WindowState) : Type 0 where
+-- a base with the frames of a setup, and these are a window, and which as a whole may have the setup's fault and start
+pub record IsBaseFor (c : Netlist) (s : Setup) (w : WindowState) : Type 0 where
   pub base : IsBase c w
-  pub few : frames ≤ w.window.frames
-  pub front : IsStart c w.window.fault frames w.window.start
-  pub fits : (fault : Option Fault) → IsStart c fault frames start → IsStart c fault w.window.frames start
+  pub few : s.frames ≤ w.window.frames
+  pub front : IsStart c w.window.fault s.frames w.window.start
+  pub fits : IsStart c s.fault w.window.frames (start_of s.start.now)
+
+-- a base with the fault, the start and at least the frames of a setup
+pub record IsBaseOf (c : Netlist) (s : Setup) (w : WindowState) : Type 0 where
+  pub base : IsBase c w
+  pub few : s.frames ≤ w.window.frames
+  pub fault : w.window.fault ≡ s.fault
+  pub start : w.window.start ≡ start_of s.start.now
 
 -- each base is one of the plan's circuit
 pub record AreBases (a : Inside) : Type 0 where

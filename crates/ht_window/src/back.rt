@@ -22,8 +22,8 @@ pub struct Wanted {
     bit: bool,
 }
 
-/// The bit that is wanted at the arguments of a gate: the kinds that give the complement turn it.
-fn turn(kind: Kind, bit: bool) -> bool
+/// The bit that is wanted at the arguments of a gate: the other one where its kind gives the complement.
+fn bit_before(kind: Kind, bit: bool) -> bool
     ensures { result ≡ bit_before kind bit }
 {
     if kind.inverts() { !bit } else { bit }
@@ -73,7 +73,7 @@ impl<'c> Window<'c> {
         let mut left = circuit.gates();
         while left > 0 && net >= first_gate_net {
             let g = net - first_gate_net;
-            bit = turn(circuit.gate_kind(g), bit);
+            bit = bit_before(circuit.gate_kind(g), bit);
             net = self.undetermined_argument(frame, g);
             left -= 1;
         }

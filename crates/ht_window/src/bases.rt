@@ -2,9 +2,11 @@
 ghost use Rattle.std.specs.Prelude.{◌≡◌, ◌<◌, ◌≤◌, [], length, IfOk, IfSome};
 ghost use Rattle.ht_tree.specs.Windows.{IsStart};
 ghost use Rattle.ht_window.specs.Starts.{start_of, window_from};
-ghost use Rattle.ht_window.specs.BaseStates.{BasesState, IsBase, IsBaseFor};
+ghost use Rattle.ht_window.specs.Setups.{IsSetup, window_for};
+ghost use Rattle.ht_window.specs.BaseStates.{BasesState, IsBase, IsBaseFor, IsNew};
 
 use crate::restrict::is_small;
+use crate::setup::Setup;
 use crate::start::Start;
 use crate::window::Window;
 use ht_events::{FramePlan, MAX_FRAMES};
@@ -114,154 +116,69 @@ impl<'c> Bases<'c> {
         Ok(())
     }
 
-    // A new base for a start, in a small circuit with the fault.
-    fn new_base(
-        &self,
-        alloc: Global,
-        fault: Option<Fault>,
-        frames: u32,
-        start: &Start,
-    ) -> Result<Window<'c>, AllocError>
-        requires frames { frames ≤ MAX_FRAMES }
-        requires start { IsStart self.now.circuit fault frames (start_of start.now) }
-        ensures { IfOk result (IsBaseFor self.now.circuit frames (start_of start.now)) }
+    // The plan of a frame, for one more window.
+    fn plan(&self) -> Result<Rc<FramePlan<'c>>, AllocError>
+        ensures { IfOk result (λ plan. plan.value.circuit ≡ self.now.circuit) }
+    {
+        self.frame_plan.clone()
+    }
+
+    // A new base for a window, in a small circuit with the fault.
+    fn new_base(&self, alloc: Global, setup: &Setup) -> Result<Window<'c>, AllocError>
+        requires { IsSetup self.now.circuit setup.now }
+        ensures { IfOk result (IsBaseFor self.now.circuit setup.now) }
     {
         let fault = if is_small(self.circuit()) {
-            fault
+            setup.fault
         } else {
             None
         };
-        let frame_plan = self.frame_plan.clone()?;
-        Window::planned(alloc, frame_plan, fault, frames, start)
+        let base = Setup {
+            fault,
+            frames: setup.frames,
+            start: setup.start,
+        };
+        Window::planned(alloc, self.plan()?, &base)
     }
 
-    // The base of a start's kind, or a new one where it has fewer frames than these.
-    fn base(
-        &mut self,
-        alloc: Global,
-        fault: Option<Fault>,
-        frames: u32,
-        start: &Start,
-    ) -> Result<Window<'c>, AllocError>
-        requires frames { frames ≤ MAX_FRAMES }
-        requires start { IsStart self.old.circuit fault frames (start_of start.now) }
+    // The base of a start's kind, or a new one where it has fewer frames than are asked for.
+    fn base(&mut self, alloc: Global, setup: &Setup) -> Result<Window<'c>, AllocError>
+        requires { IsSetup self.old.circuit setup.now }
         ensures circuit { self.new.circuit ≡ self.old.circuit }
-        ensures base { IfOk result (IsBaseFor self.old.circuit frames (start_of start.now)) }
+        ensures base { IfOk result (IsBaseFor self.old.circuit setup.now) }
     {
-        if let Some(base) = self.take(start) {
-            if base.has_front(frames, start) {
+        if let Some(base) = self.take(setup.start) {
+            if base.has_front(setup) {
                 return Ok(base);
             }
         }
-        self.new_base(alloc, fault, frames, start)
+        self.new_base(alloc, setup)
     }
 
-    // The window of a fault from a start, made of the first frames of a base that stays as it is.
-    fn restricted(
-        &self,
-        alloc: Global,
-        base: &Window<'c>,
-        fault: Option<Fault>,
-        frames: u32,
-        start: &Start,
-    ) -> Result<Window<'c>, AllocError>
-        requires base { IsBaseFor self.now.circuit frames (start_of start.now) base.now }
-        requires start { IsStart self.now.circuit fault frames (start_of start.now) }
-        ensures window { IfOk result
-            (λ w. w.window ≡ window_from self.now.circuit fault frames start.now) }
-        ensures decisions { IfOk result (λ w. w.decisions ≡ []) }
-        ensures marks { IfOk result (λ w. w.marks ≡ []) }
-    {
-        let frame_plan = self.frame_plan.clone()?;
-        base.restricted(alloc, frame_plan, fault, frames, start)
-    }
-
-    // The base that has followed the fault and the start.
-    fn turned(
-        &self,
-        alloc: Global,
-        base: Window<'c>,
-        fault: Option<Fault>,
-        frames: u32,
-        start: &Start,
-    ) -> Result<Window<'c>, AllocError>
-        requires base { IsBaseFor self.now.circuit frames (start_of start.now) base }
-        requires start { IsStart self.now.circuit fault frames (start_of start.now) }
-        ensures base { IfOk result (IsBase self.now.circuit) }
-        ensures few { IfOk result (λ w. frames ≤ w.window.frames) }
-        ensures fault { IfOk result (λ w. w.window.fault ≡ fault) }
-        ensures start { IfOk result (λ w. w.window.start ≡ start_of start.now) }
-    {
-        if base.is_of(fault, start) {
-            return Ok(base);
-        }
-        base.turned(alloc, self.frame_plan.clone()?, fault, start)
-    }
-
-    // The window of a fault from a start, made of the first frames of a base that is of this fault from this start.
-    fn front(
-        &self,
-        alloc: Global,
-        base: &Window<'c>,
-        fault: Option<Fault>,
-        frames: u32,
-        start: &Start,
-    ) -> Result<Window<'c>, AllocError>
-        requires base { IsBase self.now.circuit base.now }
-        requires few { frames ≤ base.now.window.frames }
-        requires fault { base.now.window.fault ≡ fault }
-        requires from { base.now.window.start ≡ start_of start.now }
-        requires start { IsStart self.now.circuit fault frames (start_of start.now) }
-        ensures window { IfOk result
-            (λ w. w.window ≡ window_from self.now.circuit fault frames start.now) }
-        ensures decisions { IfOk result (λ w. w.decisions ≡ []) }
-        ensures marks { IfOk result (λ w. w.marks ≡ []) }
-    {
-        let frame_plan = self.frame_plan.clone()?;
-        base.front(alloc, frame_plan, frames)
-    }
-
-    // The window of a fault from a start, of a base that follows them.
-    fn window_of_following(
-        &mut self,
-        alloc: Global,
-        fault: Option<Fault>,
-        frames: u32,
-        start: &Start,
-    ) -> Result<Window<'c>, AllocError>
-        requires frames { frames ≤ MAX_FRAMES }
-        requires start { IsStart self.old.circuit fault frames (start_of start.now) }
+    // A window, made of a base that follows its fault and its start.
+    fn window_following(&mut self, alloc: Global, setup: &Setup) -> Result<Window<'c>, AllocError>
+        requires { IsSetup self.old.circuit setup.now }
         ensures circuit { self.new.circuit ≡ self.old.circuit }
-        ensures window { IfOk result
-            (λ w. w.window ≡ window_from self.old.circuit fault frames start.now) }
-        ensures decisions { IfOk result (λ w. w.decisions ≡ []) }
-        ensures marks { IfOk result (λ w. w.marks ≡ []) }
+        ensures new { IfOk result (IsNew (window_for self.old.circuit setup.now)) }
     {
-        let base = self.base(alloc, fault, frames, start)?;
-        let base = self.turned(alloc, base, fault, frames, start)?;
-        let made = self.front(alloc, &base, fault, frames, start);
+        let plan = self.plan()?;
+        let front_plan = self.plan()?;
+        let old = self.base(alloc, setup)?;
+        let base = old.following(alloc, plan, setup)?;
+        let made = base.front(alloc, front_plan, setup.frames);
         self.keep(base)?;
         made
     }
 
-    // The window of a fault from a start, of a base that stays as it is.
-    fn window_of_good(
-        &mut self,
-        alloc: Global,
-        fault: Option<Fault>,
-        frames: u32,
-        start: &Start,
-    ) -> Result<Window<'c>, AllocError>
-        requires frames { frames ≤ MAX_FRAMES }
-        requires start { IsStart self.old.circuit fault frames (start_of start.now) }
+    // A window, made of a base that stays as it is.
+    fn window_of_good(&mut self, alloc: Global, setup: &Setup) -> Result<Window<'c>, AllocError>
+        requires { IsSetup self.old.circuit setup.now }
         ensures circuit { self.new.circuit ≡ self.old.circuit }
-        ensures window { IfOk result
-            (λ w. w.window ≡ window_from self.old.circuit fault frames start.now) }
-        ensures decisions { IfOk result (λ w. w.decisions ≡ []) }
-        ensures marks { IfOk result (λ w. w.marks ≡ []) }
+        ensures new { IfOk result (IsNew (window_for self.old.circuit setup.now)) }
     {
-        let base = self.base(alloc, fault, frames, start)?;
-        let made = self.restricted(alloc, &base, fault, frames, start);
+        let plan = self.plan()?;
+        let base = self.base(alloc, setup)?;
+        let made = base.restricted(alloc, plan, setup);
         self.keep(base)?;
         made
     }
@@ -285,10 +202,15 @@ impl<'c> Bases<'c> {
         ensures decisions { IfOk result (λ w. w.decisions ≡ []) }
         ensures marks { IfOk result (λ w. w.marks ≡ []) }
     {
+        let setup = Setup {
+            fault,
+            frames,
+            start,
+        };
         if is_small(self.circuit()) {
-            self.window_of_following(alloc, fault, frames, start)
+            self.window_following(alloc, &setup)
         } else {
-            self.window_of_good(alloc, fault, frames, start)
+            self.window_of_good(alloc, &setup)
         }
     }
 }

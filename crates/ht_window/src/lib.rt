@@ -13,7 +13,7 @@
 //! | frames | the sets of a whole window, frame by frame |
 //! | held | the decisions and the cells: the plant of the events |
 //! | window | `decide`, `mark`, `undo`, `cell`, `next_state` |
-//! | turn, base, bases | windows before their first decision, one made from another by events |
+//! | setup, renew, base, bases | windows before their first decision, one made from another by events |
 //! | restrict | which nets matter to a window of a fault: their cells alone are kept |
 //! | places, cube, status | what the places and the latches of a cube show; `status`, `pick` |
 //! | back | `walk_back` |
@@ -31,12 +31,13 @@ mod decided;
 mod frames;
 mod held;
 mod places;
+mod renew;
 mod restrict;
 mod sets;
+mod setup;
 mod start;
 mod status;
 mod trial;
-mod turn;
 mod vectors;
 mod window;
 

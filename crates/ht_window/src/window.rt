@@ -17,6 +17,7 @@ ghost use Rattle.ht_window.specs.Holding.{HeldState};
 ghost use Rattle.ht_window.specs.States.{IsLegalDecision, WindowState, mark_before, undone};
 
 use crate::held::Held;
+use crate::setup::Setup;
 use crate::start::Start;
 use ht_events::{Core, FramePlan, MAX_FRAMES};
 use ht_frame::data_pin;
@@ -103,7 +104,12 @@ impl<'c> Window<'c> {
         ensures whole { IfOk result (λ w. w.relevant ≡ None) }
     {
         let frame_plan = Rc::new(alloc, FramePlan::new(alloc, circuit)?)?;
-        Window::planned(alloc, frame_plan, fault, frames, start)
+        let setup = Setup {
+            fault,
+            frames,
+            start,
+        };
+        Window::planned(alloc, frame_plan, &setup)
     }
 
     /// One more decision: of a legal variable, numbered from 0, that is undecided. The cells follow it by events, each

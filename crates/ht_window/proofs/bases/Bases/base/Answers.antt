@@ -9,16 +9,17 @@ pub returns-then-has_front-clause-base : goal.returns-then-has_front-clause-base
 returns-then-has_front-clause-base c =
     let circuit = c.args.self.now.circuit in
     let w = c.in-Some.base.window in
-    let n = c.args.frames in
-    let start = start_of c.args.start.now in
+    let s = c.args.setup.now in
+    let start = start_of s.start.now in
     let base = c.in-Some.ensures.base in
     let front = c.has_front.ensures in
     let is = c.if-has_front.true in
     record {
       base = base;
       few = front.few is;
-      front = subst (λ (k : Netlist). IsStart k w.fault n w.start) base.circuit
-          (front.front is (start_frames circuit c.args.fault n start c.requires.start));
-      fits = λ fault h. subst (λ (k : Netlist). IsStart k fault w.frames start) base.circuit
-          (front.fits is fault (subst (λ (k : Netlist). IsStart k fault n start) (sym base.circuit) h));
+      front = subst (λ (k : Netlist). IsStart k w.fault s.frames w.start) base.circuit
+          (front.front is (start_frames circuit s.fault s.frames start c.requires.start));
+      fits = subst (λ (k : Netlist). IsStart k s.fault w.frames start) base.circuit
+          (front.fits is (subst (λ (k : Netlist). IsStart k s.fault s.frames start) (sym base.circuit)
+          c.requires.start));
     }

@@ -41,8 +41,8 @@ loop-left-preserved c =
     let is_net : c.undetermined_argument-net.result ≡ undetermined_argument r (net - first_gate_net n) env 0
     (gate_at n (net - first_gate_net n)).args =
     c.undetermined_argument-net.ensures ∙ ap (λ (x : ℕ). undetermined_argument r x env 0 (gate_at n x).args) gate in
-    let is_bit : c.turn-bit.result ≡ bit_before (gate_at n (net - first_gate_net n)).kind c.loop-left.bit =
-    c.turn-bit.ensures ∙ ap (λ (k : Kind). bit_before k c.loop-left.bit) kind in
+    let is_bit : c.bit_before-bit.result ≡ bit_before (gate_at n (net - first_gate_net n)).kind c.loop-left.bit =
+    c.bit_before-bit.ensures ∙ ap (λ (k : Kind). bit_before k c.loop-left.bit) kind in
     let inside = undetermined_argument_known n r env (net - first_gate_net n) valid (omega (arith, known, high)) in
     let next = argument_matters s.window c.circuit-circuit.ensures.valid s.decisions c.args.frame
     (is_relevant s.relevant) c.relevance.ensures.closed c.requires.frame net known high
@@ -52,7 +52,7 @@ loop-left-preserved c =
       matters = ap (λ (x : ℕ). is_relevant s.relevant c.args.frame x) is_net ∙ next.0;
       undetermined = subst (λ (x : ℕ). 1 < length (env x)) (sym is_net) next.1;
       same = back_step n r env c.loop-left.left (record { net = net; bit = c.loop-left.bit })
-          (record { net = c.undetermined_argument-net.result; bit = c.turn-bit.result }) (omega (arith, l)) high
+          (record { net = c.undetermined_argument-net.result; bit = c.bit_before-bit.result }) (omega (arith, l)) high
           (λ k. record { net = is_net k; bit = is_bit k })
           ∙ c.loop-left.invariant.same;
     }

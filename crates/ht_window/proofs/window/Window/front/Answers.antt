@@ -4,14 +4,17 @@ use Rattle.std.proofs.lemmas.List.{length-take-le}
 use Rattle.ht_pairs.specs.Pairs.{Pair}
 use Rattle.ht_net.specs.Netlist.{Netlist, net_count}
 use Rattle.ht_tree.specs.declared.token.Assign3.{Assign3}
+use Rattle.ht_tree.specs.Windows.{SearchWindow}
 use Rattle.ht_relevant.specs.Near.{RelevantState}
 use Rattle.ht_window.specs.Matters.{is_relevant}
 use Rattle.ht_window.specs.Standing.{Standing}
 use Rattle.ht_window.specs.States.{WindowState}
+use Rattle.ht_window.specs.BaseStates.{IsNew}
 use Rattle.ht_window.specs.Cells.{AreCells, cell_count}
 use Rattle.ht_window.proofs.HistoryLaws.{cells_now}
-use Rattle.ht_window.proofs.TurnLaws.{front_cells}
+use Rattle.ht_window.proofs.OtherFaultLaws.{front_cells}
 use Rattle.ht_window.proofs.window.Window.front.Goals as goal
+use Rattle.ht_window.proofs.window.Window.front.Goals.{In_ok-held}
 
 pub new-requires-2-clause-count : goal.new-requires-2-clause-count
 new-requires-2-clause-count c =
@@ -30,6 +33,20 @@ new-requires-2-clause-count c =
     ap length c.in_ok-sets.ensures ∙ (l ∙ (ap (λ (k : Netlist). n * net_count k) (sym circuit)
     ∙ sym (ap (λ (s : Standing). cell_count s.window) c.in_ok-part.ensures)))
 
+-- the cells stand under no decision in the window of the first frames
+part : (c : In_ok-held) → c.in_ok-held.held.standing
+    ≡ record { window = record c.self.inside.held.standing.window { frames = c.args.frames }; path = [] }
+part c =
+    let whole = c.decided-whole.ensures.standing in
+    let circuit : c.circuit.result.now ≡ c.self.inside.held.standing.window.circuit = c.circuit.ensures.circuit
+    ∙ ap (λ (s : Standing). s.window.circuit) whole in
+    let fault = c.fault.ensures ∙ ap (λ (s : Standing). s.window.fault) whole in
+    let start = c.start.ensures ∙ ap (λ (s : Standing). s.window.start) whole in
+    c.in_ok-held.ensures.standing ∙ (c.in_ok-part.ensures ∙ (λ i. record {
+      window = record { circuit = circuit i; fault = fault i; frames = c.args.frames; start = start i };
+      path = [];
+    }))
+
 pub undecided-requires-clause-cells : goal.undecided-requires-clause-cells
 undecided-requires-clause-cells c =
     let a = c.self.inside.held in
@@ -38,26 +55,23 @@ undecided-requires-clause-cells c =
     let h = c.in_ok-held.held in
     let r = c.requires.few in
     let v = ap (λ (s : WindowState). s.window.frames) c.self.view_is in
-    let whole = c.decided-whole.ensures.standing in
-    let circuit : c.circuit.result.now ≡ w.circuit = c.circuit.ensures.circuit
-    ∙ ap (λ (s : Standing). s.window.circuit) whole in
-    let fault = c.fault.ensures ∙ ap (λ (s : Standing). s.window.fault) whole in
-    let start = c.start.ensures ∙ ap (λ (s : Standing). s.window.start) whole in
     let none : a.standing.path ≡ [] = ap (λ (s : WindowState). s.decisions) c.self.view_is ∙ c.requires.base.decisions in
     let all : a.relevant ≡ None = ap (λ (s : WindowState). s.relevant) c.self.view_is ∙ c.requires.base.whole in
     let are = cells_now w (is_relevant a.relevant) a.standing.path c.self.inside.marks.items a.cells
     c.self.invariant.history in
-    let part : h.standing ≡ record { window = record w { frames = n }; path = [] } = c.in_ok-held.ensures.standing
-    ∙ (c.in_ok-part.ensures ∙ (λ i. record {
-      window = record { circuit = circuit i; fault = fault i; frames = n; start = start i };
-      path = [];
-    })) in
     let values : h.cells.values ≡ take (n * net_count w.circuit) a.cells.values = c.in_ok-held.ensures.values
     ∙ c.in_ok-sets.ensures in
     subst (λ (o : Option RelevantState). AreCells h.standing.window (is_relevant o) h.standing.path h.cells.values)
     (sym c.in_ok-held.ensures.whole)
-    (subst (λ (s : Standing). AreCells s.window (λ f x. true) s.path h.cells.values) (sym part)
+    (subst (λ (s : Standing). AreCells s.window (λ f x. true) s.path h.cells.values)
+    (sym (part (goal.at.undecided-requires-clause-cells c).In_ok-held))
     (subst (λ (l : List (List Pair)). AreCells (record w { frames = n }) (λ f x. true) [] l) (sym values)
     (front_cells w [] n a.cells.values (omega (arith, r, v))
     (subst (λ (o : Option RelevantState). AreCells w (is_relevant o) [] a.cells.values) all
     (subst (λ (p : List Assign3). AreCells w (is_relevant a.relevant) p a.cells.values) none are)))))
+
+pub returns : goal.returns
+returns c =
+    subst (λ (v : SearchWindow). IsNew v c.undecided.result)
+    (ap (λ (s : Standing). s.window) (part (goal.at.returns c).In_ok-held)
+    ∙ ap (λ (s : WindowState). record s.window { frames = c.args.frames }) c.self.view_is) c.undecided.ensures.new

@@ -1,8 +1,13 @@
-use Rattle.std.proofs.Common.{List, None, Option, sym, subst}
+use Rattle.std.proofs.Common.{◌∙◌, List, None, Option, ap, sym, subst}
 use Rattle.ht_pairs.specs.Pairs.{Pair}
 use Rattle.ht_relevant.specs.Near.{RelevantState}
 use Rattle.ht_relevant.specs.Relevant.{IsRelevant}
+use Rattle.ht_net.specs.Netlist.{Netlist}
+use Rattle.ht_events.specs.FramePlans.{FramePlanState}
+use Rattle.ht_tree.specs.Windows.{SearchWindow}
+use Rattle.ht_window.specs.Setups.{window_for}
 use Rattle.ht_window.specs.Standing.{Standing}
+use Rattle.ht_window.specs.BaseStates.{IsNew}
 use Rattle.ht_window.specs.Cells.{AreCells}
 use Rattle.ht_window.specs.Matters.{is_relevant}
 use Rattle.ht_window.proofs.RestrictLaws.{whole_relevant}
@@ -23,3 +28,10 @@ undecided-requires-clause-cells c =
     (subst (λ (s : Standing). AreCells s.window (is_relevant None) s.path h.cells.values) (sym e.standing)
     (subst (λ (l : List (List Pair)). AreCells c.in_ok-decided.decided.window (is_relevant None)
     c.in_ok-decided.decided.path l) (sym e.values) c.in_ok-sets.ensures.cells))
+
+pub returns-clause-new : goal.returns-clause-new
+returns-clause-new c =
+    subst (λ (v : SearchWindow). IsNew v c.undecided.result)
+    (ap (λ (s : Standing). s.window) (c.in_ok-held.ensures.standing ∙ c.in_ok-decided.ensures)
+    ∙ ap (λ (k : Netlist). window_for k c.args.setup.now)
+    (c.circuit-circuit.ensures ∙ ap (λ (p : FramePlanState). p.circuit) c.deref.ensures)) c.undecided.ensures.new

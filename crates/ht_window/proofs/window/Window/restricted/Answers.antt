@@ -1,8 +1,11 @@
-use Rattle.std.proofs.Common.{List, ap, sym, subst}
+use Rattle.std.proofs.Common.{◌∙◌, IfOk, List, ap, sym, subst}
 use Rattle.ht_pairs.specs.Pairs.{Pair}
 use Rattle.ht_trail.specs.Trails.{CellsState}
-use Rattle.ht_window.specs.Turns.{HoldsElsewhere}
-use Rattle.ht_window.proofs.TurnLaws.{still_elsewhere}
+use Rattle.ht_tree.specs.Windows.{SearchWindow}
+use Rattle.ht_window.specs.Standing.{Standing}
+use Rattle.ht_window.specs.BaseStates.{IsNew}
+use Rattle.ht_window.specs.Renewals.{HoldsElsewhere}
+use Rattle.ht_window.proofs.OtherFaultLaws.{still_elsewhere}
 use Rattle.ht_window.proofs.window.Window.restricted.Goals as goal
 
 pub followed-requires-clause-holds : goal.followed-requires-clause-holds
@@ -11,3 +14,9 @@ followed-requires-clause-holds c =
     subst (HoldsElsewhere c.restrict.new.held) (sym c.fault.ensures)
     (still_elsewhere c.in_ok-held.held c.restrict.new.held c.args.self.now.window.fault e.standing
     (ap (λ (k : CellsState (List Pair)). k.values) e.cells) c.in_ok-held.ensures.holds)
+
+pub returns : goal.returns
+returns c =
+    subst (λ (v : SearchWindow). IfOk c.followed.result (IsNew v))
+    (ap (λ (s : Standing). s.window) (c.in_ok-restrict.ensures.standing ∙ c.in_ok-held.ensures.standing))
+    c.followed.ensures.new

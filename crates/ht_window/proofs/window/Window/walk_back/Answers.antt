@@ -41,27 +41,30 @@ data_net c =
     ap (λ (x : NetId). x.0)
     (c.dff_data.ensures ∙ (λ k. get_or (circuit k).dffs (c.loop-frame.at.net - inputs k) no_net))
 
+-- the walk stands at a latch, past the inputs
+at_latch : (c : goal.After-dff_data) → c.args.self.now.window.circuit.inputs ≤ c.loop-frame.at.net
+at_latch c =
+    let t = c.if-at-inputs.true in
+    let inputs = c.inputs-inputs.ensures ∙ ap (λ (n : Netlist). n.inputs) c.circuit-circuit.ensures.circuit in
+    omega (arith, t, inputs)
+
 pub end_in_frame-at-requires-in-loop-frame-clause-matters : goal.end_in_frame-at-requires-in-loop-frame-clause-matters
 end_in_frame-at-requires-in-loop-frame-clause-matters c =
     let s = c.args.self.now in
     let e = c.circuit-circuit.ensures in
     let i = c.loop-frame.invariant in
-    let t = c.if-at-inputs.true in
-    let inputs = c.inputs-inputs.ensures ∙ ap (λ (n : Netlist). n.inputs) e.circuit in
     ap (is_relevant s.relevant (c.loop-frame.frame - 1)) (data_net c)
     ∙ data_matters s.window s.decisions e.valid.circuit (is_relevant s.relevant) c.relevance.ensures.closed
-    c.loop-frame.frame c.loop-frame.at.net i.frame c.loop-frame-test.true (omega (arith, t, inputs)) i.low i.matters
+    c.loop-frame.frame c.loop-frame.at.net i.frame c.loop-frame-test.true (at_latch c) i.low i.matters
 
 pub end_in_frame-at-requires-in-loop-frame-clause-undetermined : goal.end_in_frame-at-requires-in-loop-frame-clause-undetermined
 end_in_frame-at-requires-in-loop-frame-clause-undetermined c =
     let s = c.args.self.now in
     let e = c.circuit-circuit.ensures in
     let i = c.loop-frame.invariant in
-    let t = c.if-at-inputs.true in
-    let inputs = c.inputs-inputs.ensures ∙ ap (λ (n : Netlist). n.inputs) e.circuit in
     subst (λ (x : ℕ). 1 < length (cell_at s.window s.decisions (c.loop-frame.frame - 1) x)) (sym (data_net c))
     (data_undetermined s.window s.decisions e.valid.circuit c.loop-frame.frame c.loop-frame.at.net c.loop-frame-test.true
-    (omega (arith, t, inputs)) i.low i.undetermined)
+    (at_latch c) i.low i.undetermined)
 
 pub loop-frame-preserved : goal.loop-frame-preserved
 loop-frame-preserved c =

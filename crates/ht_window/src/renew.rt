@@ -5,7 +5,7 @@ ghost use Rattle.ht_relevant.specs.Reached.{begins_at, leads_to};
 ghost use Rattle.ht_relevant.specs.Relevant.{IsClosedBack};
 ghost use Rattle.ht_window.specs.Cells.{AreCells};
 ghost use Rattle.ht_window.specs.Matters.{is_relevant};
-ghost use Rattle.ht_window.specs.Turns.{HoldsElsewhere, HoldsOrPends, IsRenewed};
+ghost use Rattle.ht_window.specs.Renewals.{HoldsElsewhere, HoldsOrPends, IsPlanFor, IsRenewed};
 
 use crate::held::Held;
 use ht_events::Core;
@@ -44,8 +44,7 @@ fn first_reached(circuit: &Circuit, fault: Option<Fault>) -> Option<u32>
 
 // Gives a net of a frame its set, if it matters, and makes what reads it pending where that is another.
 fn renew(held: &mut Held, core: &mut Core, frame: u32, net: u32) -> Result<(), AllocError>
-    requires circuit { core.old.plan.circuit ≡ held.old.standing.window.circuit }
-    requires frames { core.old.plan.frames ≡ held.old.standing.window.frames }
+    requires plan { IsPlanFor core.old.plan held.old.standing.window }
     requires frame { frame < held.old.standing.window.frames }
     requires net { net < net_count held.old.standing.window.circuit }
     ensures renewed { OnOk result (IsRenewed core.old held.old core.new held.new) }
@@ -64,8 +63,7 @@ fn renew(held: &mut Held, core: &mut Core, frame: u32, net: u32) -> Result<(), A
 
 // Renews the net that a fault reaches first, in each frame.
 fn renew_line(held: &mut Held, core: &mut Core, fault: Option<Fault>) -> Result<(), AllocError>
-    requires circuit { core.old.plan.circuit ≡ held.old.standing.window.circuit }
-    requires frames { core.old.plan.frames ≡ held.old.standing.window.frames }
+    requires { IsPlanFor core.old.plan held.old.standing.window }
     ensures renewed { OnOk result (IsRenewed core.old held.old core.new held.new) }
     ensures holds { OnOk result ((f x : ℕ) → f < held.old.standing.window.frames
         → x < net_count held.old.standing.window.circuit
@@ -85,8 +83,7 @@ fn renew_line(held: &mut Held, core: &mut Core, fault: Option<Fault>) -> Result<
 
 // Renews the latches of the first frame.
 fn renew_latches(held: &mut Held, core: &mut Core) -> Result<(), AllocError>
-    requires circuit { core.old.plan.circuit ≡ held.old.standing.window.circuit }
-    requires frames { core.old.plan.frames ≡ held.old.standing.window.frames }
+    requires { IsPlanFor core.old.plan held.old.standing.window }
     ensures renewed { OnOk result (IsRenewed core.old held.old core.new held.new) }
     ensures holds { OnOk result ((x : ℕ) → held.old.standing.window.circuit.inputs ≤ x
         → x < first_gate_net held.old.standing.window.circuit
@@ -108,13 +105,12 @@ fn renew_latches(held: &mut Held, core: &mut Core) -> Result<(), AllocError>
 ///
 /// # Errors
 /// Out of memory.
-pub fn follow_turn(
+pub fn follow_fault(
     held: &mut Held,
     core: &mut Core,
     before: Option<Fault>,
 ) -> Result<(), AllocError>
-    requires circuit { core.old.plan.circuit ≡ held.old.standing.window.circuit }
-    requires frames { core.old.plan.frames ≡ held.old.standing.window.frames }
+    requires plan { IsPlanFor core.old.plan held.old.standing.window }
     requires closed { IsClosedBack held.old.standing.window.circuit
         held.old.standing.window.frames (is_relevant held.old.relevant) }
     requires holds { HoldsElsewhere held.old before }

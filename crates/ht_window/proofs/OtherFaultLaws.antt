@@ -22,7 +22,7 @@ use Rattle.ht_window.specs.Cells.{env_at, blank, latches_over, value_over, Holds
 use Rattle.ht_window.specs.Standing.{Standing}
 use Rattle.ht_window.specs.Holding.{HeldState}
 use Rattle.ht_relevant.specs.Reached.{leads_to, begins_at}
-use Rattle.ht_window.specs.Turns.{HoldsElsewhere}
+use Rattle.ht_window.specs.Renewals.{HoldsElsewhere}
 use Rattle.ht_window.proofs.PlaceLaws.{rows_inside}
 use Rattle.ht_window.proofs.ReaderLaws.{over_same}
 use Rattle.ht_window.proofs.HoldLaws.{cells_hold}
@@ -152,12 +152,12 @@ module _ (w : SearchWindow) (path : List Assign3) (values : List (List Pair)) wh
 
 -- In a whole window a net that neither fault reaches first, and that isn't a latch of the first frame, holds its cell in
 -- the window of another fault from another start too.
-turned_hold : (w : SearchWindow) → IsWindow w → (path : List Assign3) (values : List (List Pair))
+unreached_hold : (w : SearchWindow) → IsWindow w → (path : List Assign3) (values : List (List Pair))
     → AreCells w (λ f x. true) path values → (fault : Option Fault) (s : Start) (f x : ℕ) → f < w.frames
     → x < net_count w.circuit → begins_at w.circuit w.fault x ≡ false → begins_at w.circuit fault x ≡ false
     → (f ≡ 0 → w.circuit.inputs ≤ x → first_gate_net w.circuit ≤ x)
     → HoldsValue (record w { fault = fault; start = s }) path values f x
-turned_hold w valid path values are fault s f x fs xs free freed late =
+unreached_hold w valid path values are fault s f x fs xs free freed late =
     let whole : IsClosedBack w.circuit w.frames (λ f x. true) = record {
       gates = λ f g i fs gs l m. refl;
       dffs = λ f j fs js m. refl;
@@ -168,14 +168,14 @@ turned_hold w valid path values are fault s f x fs xs free freed late =
     ∙ sym (unreached (record w { fault = fault; start = s }) path values f x freed)))
 
 -- the cells of a whole window under another fault and another start
-pub turned_elsewhere : (w : SearchWindow) → IsWindow w → (path : List Assign3) (b : HeldState)
+pub holds_elsewhere : (w : SearchWindow) → IsWindow w → (path : List Assign3) (b : HeldState)
     (fault : Option Fault) (s : Start)
     → b.standing ≡ record { window = record w { fault = fault; start = s }; path = path }
     → AreCells w (λ f x. true) path b.cells.values → HoldsElsewhere b w.fault
-turned_elsewhere w valid path b fault s is are =
+holds_elsewhere w valid path b fault s is are =
     subst (λ (n : Standing). HoldsElsewhere (record { standing = n; cells = b.cells; relevant = b.relevant }) w.fault)
     (sym is)
-    (record { holds = turned_hold w valid path b.cells.values are fault s })
+    (record { holds = unreached_hold w valid path b.cells.values are fault s })
 
 -- this rests on the window, the decisions and the cells alone
 pub still_elsewhere : (a b : HeldState) (before : Option Fault) → b.standing ≡ a.standing

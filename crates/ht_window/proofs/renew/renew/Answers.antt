@@ -1,9 +1,9 @@
 use Rattle.std.proofs.Common.{◌<◌, ◌∙◌, ap, sym, subst}
 use Rattle.ht_net.specs.Netlist.{net_count}
 use Rattle.ht_window.specs.Holding.{HeldState}
-use Rattle.ht_window.specs.Turns.{HoldsOrPends, IsRenewed}
+use Rattle.ht_window.specs.Renewals.{HoldsOrPends, IsRenewed}
 use Rattle.ht_window.proofs.RenewLaws.{renewed_write}
-use Rattle.ht_window.proofs.turn.renew.Goals as goal
+use Rattle.ht_window.proofs.renew.renew.Goals as goal
 
 -- what the write leaves, over the cells that `holds_value` has read
 written : (c : goal.After-touch_loads) → IsRenewed c.args.core.now c.holds_value.new.self c.touch_loads.new.self
@@ -17,8 +17,8 @@ written c =
     renewed_write c.args.core.now c.touch_loads.new.self h c.write.new.self q.window q.count c.args.frame c.args.net
     (subst (λ (a : HeldState). c.args.frame < a.standing.window.frames) (sym e) c.requires.frame)
     (subst (λ (a : HeldState). c.args.net < net_count a.standing.window.circuit) (sym e) c.requires.net)
-    (c.requires.circuit ∙ sym (ap (λ (a : HeldState). a.standing.window.circuit) e))
-    (c.requires.frames ∙ sym (ap (λ (a : HeldState). a.standing.window.frames) e))
+    (c.requires.plan.circuit ∙ sym (ap (λ (a : HeldState). a.standing.window.circuit) e))
+    (c.requires.plan.frames ∙ sym (ap (λ (a : HeldState). a.standing.window.frames) e))
     q.standing q.relevant q.values t.plan t.more t.loads
 
 pub returns-clause-renewed : goal.returns-clause-renewed

@@ -8,9 +8,9 @@ use Rattle.ht_relevant.specs.Relevant.{IsClosedBack}
 use Rattle.ht_window.specs.Standing.{Standing}
 use Rattle.ht_window.specs.Cells.{AreCells}
 use Rattle.ht_window.specs.Matters.{is_relevant}
-use Rattle.ht_window.specs.Turns.{HoldsOrPends}
+use Rattle.ht_window.specs.Renewals.{HoldsOrPends}
 use Rattle.ht_window.proofs.RenewLaws.{renewed_more, plan_renewed, all_renewed, all_followed}
-use Rattle.ht_window.proofs.turn.follow_turn.Goals as goal
+use Rattle.ht_window.proofs.renew.follow_fault.Goals as goal
 
 pub returns-clause-relevant : goal.returns-clause-relevant
 returns-clause-relevant c = c.in_ok-settle.ensures.keeps.relevant
@@ -51,7 +51,7 @@ returns-clause-cells c =
     subst (λ (n : Standing). (x : ℕ) → n.window.circuit.inputs ≤ x → x < first_gate_net n.window.circuit
     → HoldsOrPends t b 0 x) first.standing three.holds in
     let all = all_renewed s t a b c.args.before c.requires.holds whole before now latches in
-    let plan = plan_renewed s t a b whole c.requires.circuit c.requires.frames in
+    let plan = plan_renewed s t a b whole c.requires.plan in
     let e = c.in_ok-settle.ensures in
     let closed = subst (λ (o : Option RelevantState). IsClosedBack a.standing.window.circuit a.standing.window.frames
     (is_relevant o)) (sym whole.relevant) c.requires.closed in
@@ -63,7 +63,7 @@ returns-clause-cells c =
     (subst (λ (n : Standing). IsWindow n.window) (sym whole.standing) c.decided.ensures.window)
     (subst (λ (n : Standing). IsClosedBack n.window.circuit n.window.frames (is_relevant b.relevant))
     (sym whole.standing) closed)
-    plan.0 plan.1 e.plan
+    plan e.plan
     (subst (λ (n : Standing). (f x : ℕ) → f < n.window.frames → x < net_count n.window.circuit → HoldsOrPends t b f x)
     (sym whole.standing) all)
     e.keeps e.agree e.none))

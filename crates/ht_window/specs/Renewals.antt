@@ -3,10 +3,17 @@ use Rattle.std.specs.Prelude.{◌≡◌, ◌<◌, ◌≤◌, ◌-◌, ℕ, false
 use Rattle.ht_net.specs.Netlist.{net_count, first_gate_net}
 use Rattle.ht_net.specs.declared.fault.Fault.{Fault}
 use Rattle.ht_events.specs.Items.{item_at}
+use Rattle.ht_events.specs.Plans.{PlanState}
 use Rattle.ht_events.specs.Pending.{CoreState, IsPending}
+use Rattle.ht_tree.specs.Windows.{SearchWindow}
 use Rattle.ht_relevant.specs.Reached.{begins_at}
 use Rattle.ht_window.specs.Cells.{HoldsValue}
 use Rattle.ht_window.specs.Holding.{HeldState, MayHold}
+
+-- A plan of a window's frames.
+pub record IsPlanFor (p : PlanState) (w : SearchWindow) : Type 0 where
+  pub circuit : p.circuit ≡ w.circuit
+  pub frames : p.frames ≡ w.frames
 
 -- net x of frame f holds what it gets, or is pending, or doesn't matter
 abbrev pub HoldsOrPends : CoreState → HeldState → ℕ → ℕ → Type 0

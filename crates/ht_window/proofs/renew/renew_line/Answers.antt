@@ -2,22 +2,13 @@ use Rattle.std.proofs.Common.{◌≡◌, ◌<◌, ◌∙◌, ℕ, ap, sym, arith
 use Rattle.ht_net.specs.Netlist.{Netlist, net_count}
 use Rattle.ht_window.specs.Standing.{Standing}
 use Rattle.ht_relevant.specs.Reached.{begins_at}
-use Rattle.ht_window.specs.Turns.{HoldsOrPends}
+use Rattle.ht_window.specs.Renewals.{HoldsOrPends}
 use Rattle.ht_window.proofs.RenewLaws.{one_more_renewed, plan_renewed}
-use Rattle.ht_window.proofs.turn.renew_line.Goals as goal
+use Rattle.ht_window.proofs.renew.renew_line.Goals as goal
 
--- the plan is still that of the window's frames
-plan : (c : goal.After-renew-arg-in-loop-frame-1)
-    → (c.loop-frame.core.plan.circuit ≡ c.loop-frame.held.standing.window.circuit)
-    × (c.loop-frame.core.plan.frames ≡ c.loop-frame.held.standing.window.frames)
-plan c = plan_renewed c.args.core.now c.loop-frame.core c.args.held.now c.loop-frame.held c.loop-frame.invariant.renewed
-    c.requires.circuit c.requires.frames
-
-pub renew-requires-clause-circuit : goal.renew-requires-clause-circuit
-renew-requires-clause-circuit c = (plan c).0
-
-pub renew-requires-clause-frames : goal.renew-requires-clause-frames
-renew-requires-clause-frames c = (plan c).1
+pub renew-requires-clause-plan : goal.renew-requires-clause-plan
+renew-requires-clause-plan c = plan_renewed c.args.core.now c.loop-frame.core c.args.held.now c.loop-frame.held
+    c.loop-frame.invariant.renewed c.requires
 
 pub renew-requires-clause-frame : goal.renew-requires-clause-frame
 renew-requires-clause-frame c =

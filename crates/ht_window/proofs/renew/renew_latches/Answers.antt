@@ -1,22 +1,14 @@
 use Rattle.std.proofs.Common.{◌≡◌, ◌+◌, ◌-◌, ◌∙◌, ℕ, ap, arith, length, subst}
 use Rattle.ht_net.specs.Netlist.{Netlist, net_count}
 use Rattle.ht_window.specs.Standing.{Standing}
-use Rattle.ht_window.specs.Turns.{HoldsOrPends}
+use Rattle.ht_window.specs.Renewals.{HoldsOrPends}
 use Rattle.ht_window.proofs.LegalLaws.{legal_frame}
 use Rattle.ht_window.proofs.RenewLaws.{one_more_renewed, plan_renewed}
-use Rattle.ht_window.proofs.turn.renew_latches.Goals as goal
+use Rattle.ht_window.proofs.renew.renew_latches.Goals as goal
 
--- the plan is still that of the window's frames
-plan : (c : goal.After-renew-arg-in-loop-j-1) → (c.loop-j.core.plan.circuit ≡ c.loop-j.held.standing.window.circuit)
-    × (c.loop-j.core.plan.frames ≡ c.loop-j.held.standing.window.frames)
-plan c = plan_renewed c.args.core.now c.loop-j.core c.args.held.now c.loop-j.held c.loop-j.invariant.renewed
-    c.requires.circuit c.requires.frames
-
-pub renew-requires-clause-circuit : goal.renew-requires-clause-circuit
-renew-requires-clause-circuit c = (plan c).0
-
-pub renew-requires-clause-frames : goal.renew-requires-clause-frames
-renew-requires-clause-frames c = (plan c).1
+pub renew-requires-clause-plan : goal.renew-requires-clause-plan
+renew-requires-clause-plan c = plan_renewed c.args.core.now c.loop-j.core c.args.held.now c.loop-j.held
+    c.loop-j.invariant.renewed c.requires
 
 pub renew-requires-clause-frame : goal.renew-requires-clause-frame
 renew-requires-clause-frame c =
