@@ -142,14 +142,8 @@ fn undecided_literal(window: &Window, clause: &Clause) -> Option<Literal>
         return Some(clause.first);
     }
     match clause.second {
-        None => None,
-        Some(second) => {
-            if is_undecided(window, second) {
-                Some(second)
-            } else {
-                None
-            }
-        },
+        Some(second) if is_undecided(window, second) => Some(second),
+        _ => None,
     }
 }
 

@@ -10,16 +10,15 @@ ghost use Rattle.ht_tree.specs.WindowStatus.{status_at, without_place};
 ghost use Rattle.ht_tree.specs.WalkBack.{CanWalk, pick_of};
 ghost use Rattle.ht_tree.specs.declared.clause.Literal.{Literal};
 ghost use Rattle.ht_tree.specs.Clauses.{second_of};
-ghost use Rattle.ht_tree.specs.ClauseWindows.{breach_status, is_one_frame, may_miss, must_miss, open_if_sure, sought_status, status_under};
-ghost use Rattle.ht_tree.specs.ClauseSearches.{back_from, choice_if_open, pick_under, sought_choice};
-ghost use Rattle.ht_invariant.specs.Trials.{clause_window, knows, knows_each, knows_sought, sought_of, suits_sought};
+ghost use Rattle.ht_tree.specs.ClauseWindows.{breach_status, may_miss, must_miss, open_if_sure, sought_status};
+ghost use Rattle.ht_tree.specs.ClauseSearches.{back_from, choice_if_open, sought_choice};
+ghost use Rattle.ht_invariant.specs.Trials.{knows, knows_sought, sought_of, suits_sought};
 ghost use Rattle.ht_invariant.specs.Looks.{miss_status};
 
-use crate::literals::{breaks_some, meets_each, to_clause};
 use crate::sought::Sought;
 use ht_pairs::PairSet;
 use ht_tern::Tern;
-use ht_tree::{Choice, Clause, Literal, Status, Status3};
+use ht_tree::{Choice, Literal, Status, Status3};
 use ht_window::{Window, without_place};
 
 // What a next state shows of a literal: whether it can miss the literal's bit, and whether it must.
@@ -127,14 +126,8 @@ fn undetermined_literal(window: &Window, first: Literal, second: Option<Literal>
         return Some(first);
     }
     match second {
-        None => None,
-        Some(second) => {
-            if is_open_at(window, second) {
-                Some(second)
-            } else {
-                None
-            }
-        },
+        Some(second) if is_open_at(window, second) => Some(second),
+        _ => None,
     }
 }
 
@@ -167,8 +160,8 @@ fn choice_if_open(window: &Window) -> Option<Choice>
     }
 }
 
-// A status that isn't Sure yet.
-fn open_if_sure(status: Status3) -> Status3
+/// A status that isn't Sure yet.
+pub fn open_if_sure(status: Status3) -> Status3
     ensures { result ≡ open_if_sure status }
 {
     match status {
@@ -177,8 +170,8 @@ fn open_if_sure(status: Status3) -> Status3
     }
 }
 
-// What the decisions make of what is looked for.
-fn sought_status(window: &Window, sought: Sought) -> Status3
+/// What the decisions make of what is looked for.
+pub fn sought_status(window: &Window, sought: Sought) -> Status3
     requires one { window.now.window.frames ≡ 1 }
     requires suited { suits_sought window.now.window.fault sought ≡ true }
     requires known { knows_sought window.now.window.circuit sought ≡ true }
@@ -190,8 +183,8 @@ fn sought_status(window: &Window, sought: Sought) -> Status3
     }
 }
 
-// The choice for what is looked for.
-fn sought_choice(window: &Window, sought: Sought) -> Option<Choice>
+/// The choice for what is looked for.
+pub fn sought_choice(window: &Window, sought: Sought) -> Option<Choice>
     requires one { window.now.window.frames ≡ 1 }
     requires suited { suits_sought window.now.window.fault sought ≡ true }
     requires known { knows_sought window.now.window.circuit sought ≡ true }
@@ -205,43 +198,5 @@ fn sought_choice(window: &Window, sought: Sought) -> Option<Choice>
             let literal = undetermined_literal(window, first, second);
             back_from(window, literal)
         },
-    }
-}
-
-/// The status under clauses.
-pub fn status_under(window: &Window, sought: Sought, clauses: &[Clause]) -> Status3
-    requires one { is_one_frame window.now.window.start ≡ true }
-    requires suited { suits_sought window.now.window.fault sought ≡ true }
-    requires known { knows_sought window.now.window.circuit sought ≡ true }
-    requires known_clauses { knows_each window.now.window.circuit clauses.now ≡ true }
-    ensures { result ≡ status_under
-        (clause_window window.now.window sought clauses.now) window.now.decisions }
-{
-    // for the proof: the window is well formed
-    let _ = window.circuit();
-    if breaks_some(window, clauses) {
-        return Status3::Dead;
-    }
-    let status = sought_status(window, sought);
-    if meets_each(window, clauses) {
-        return status;
-    }
-    open_if_sure(status)
-}
-
-/// The choice of variable under clauses.
-pub fn pick_under(window: &Window, sought: Sought, clauses: &[Clause]) -> Choice
-    requires one { is_one_frame window.now.window.start ≡ true }
-    requires suited { suits_sought window.now.window.fault sought ≡ true }
-    requires known { knows_sought window.now.window.circuit sought ≡ true }
-    requires known_clauses { knows_each window.now.window.circuit clauses.now ≡ true }
-    ensures { result ≡ pick_under
-        (clause_window window.now.window sought clauses.now) window.now.decisions }
-{
-    // for the proof: the window is well formed
-    let _ = window.circuit();
-    match sought_choice(window, sought) {
-        Some(choice) => choice,
-        None => to_clause(window, clauses),
     }
 }

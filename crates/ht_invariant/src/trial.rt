@@ -3,14 +3,15 @@ ghost use Rattle.std.specs.Prelude.{◌≡◌, ◌≤◌, ℕ, [], true, IfOk};
 ghost use Rattle.ht_tree.specs.Walks.{Node, root};
 ghost use Rattle.ht_tree.specs.Searches.{node_at};
 ghost use Rattle.ht_tree.specs.Counts.{Measures, most_tokens};
-ghost use Rattle.ht_tree.specs.ClauseWindows.{is_one_frame};
-ghost use Rattle.ht_tree.specs.ClauseSearches.{guide_under};
+ghost use Rattle.ht_tree.specs.ClauseWindows.{is_one_frame, status_under};
+ghost use Rattle.ht_tree.specs.ClauseSearches.{guide_under, pick_under};
 ghost use Rattle.ht_search.specs.Outcomes.{IsClosed, IsOutcome, IsSpent};
 ghost use Rattle.ht_search.specs.WindowSteps.{route_of, steps_under};
 ghost use Rattle.ht_window.specs.Shallow.{window_shallow};
 ghost use Rattle.ht_invariant.specs.Trials.{clause_window, knows_each, knows_sought, suits_sought};
 
-use crate::look::{pick_under, status_under};
+use crate::literals::{breaks_some, meets_each, to_clause};
+use crate::look::{open_if_sure, sought_choice, sought_status};
 use crate::sought::Sought;
 use ht_search::{Outcome, Point, Problem, search};
 use ht_tern::Tern;
@@ -33,6 +34,38 @@ pub struct ClauseTrial<'c, 'k> {
     ghost known_clauses: { knows_each window.window.circuit clauses.now ≡ true },
 }
 
+impl<'c, 'k> ClauseTrial<'c, 'k> {
+    // The status under the clauses.
+    fn see(&self) -> Status3
+        ensures { result ≡ status_under (clause_window self.now.window.window self.now.sought
+            self.now.clauses.now) self.now.window.decisions }
+    {
+        // for the proof: the window is well formed
+        let _ = self.window.circuit();
+        if breaks_some(&self.window, self.clauses) {
+            return Status3::Dead;
+        }
+        let status = sought_status(&self.window, self.sought);
+        if meets_each(&self.window, self.clauses) {
+            return status;
+        }
+        open_if_sure(status)
+    }
+
+    // The choice of the next variable under the clauses.
+    fn choose(&self) -> Choice
+        ensures { result ≡ pick_under (clause_window self.now.window.window self.now.sought
+            self.now.clauses.now) self.now.window.decisions }
+    {
+        // for the proof: the window is well formed
+        let _ = self.window.circuit();
+        match sought_choice(&self.window, self.sought) {
+            Some(choice) => choice,
+            None => to_clause(&self.window, self.clauses),
+        }
+    }
+}
+
 impl<'c, 'k> Problem for ClauseTrial<'c, 'k> {
     ghost use Rattle.ht_tree.specs.ClauseWindows.{ClauseWindow};
 
@@ -47,13 +80,13 @@ impl<'c, 'k> Problem for ClauseTrial<'c, 'k> {
     ghost shallow = { λ s. window_shallow s.window.window };
 
     fn status(&self) -> Status3 {
-        status_under(&self.window, self.sought, self.clauses)
+        self.see()
     }
 
     fn pick(&self) -> Choice {
         // for the proof: the window is well formed
         let _ = self.window.circuit();
-        pick_under(&self.window, self.sought, self.clauses)
+        self.choose()
     }
 
     fn decide(&mut self, var: u32, value: Tern) -> Result<(), AllocError> {

@@ -120,22 +120,18 @@ returns-in-Spent-clause-enough c =
 
 pub index_mut-requires : goal.index_mut-requires
 index_mut-requires c =
-    let more = told (goal.at.index_mut-requires c).In-Told in
-    let inside = (more.state c.in-State.j c.in-State.is).known in
+    let inside = ((told (goal.at.index_mut-requires c).In-Told).state c.in-State.j c.in-State.is).known in
     let marks = c.rounds.marks in
     omega (arith, inside)
 
 pub rounds-smaller : goal.rounds-smaller
-rounds-smaller c =
-    let more = told (goal.at.rounds-smaller c).In-Told in
-    (more.state c.in-State.j c.in-State.is).fewer
+rounds-smaller c = ((told (goal.at.rounds-smaller c).In-Told).state c.in-State.j c.in-State.is).fewer
 
 pub rounds-preserved : goal.rounds-preserved
-rounds-preserved c =
-    let more = told (goal.at.rounds-preserved c).In-Told in (
-      c.search_under.ensures.circuit ∙ c.rounds.invariant.0,
-      (_, (more.state c.in-State.j c.in-State.is).rounds),
-    )
+rounds-preserved c = (
+  c.search_under.ensures.circuit ∙ c.rounds.invariant.0,
+  (_, ((told (goal.at.rounds-preserved c).In-Told).state c.in-State.j c.in-State.is).rounds),
+)
 
 pub returns-in-Output-clause-answer : goal.returns-in-Output-clause-answer
 returns-in-Output-clause-answer c =
