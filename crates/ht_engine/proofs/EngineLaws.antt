@@ -155,13 +155,46 @@ graded_more e new steps s list graded after is =
     (subst (λ (v : EngineView). HasGraded v (vectors_of_steps steps ++ list.list)) is
     (graded (vectors_of_steps steps) s.graded))
 
+-- what an engine stands for with one list more, where only what it has graded, its place and the first vectors that are
+-- left are new
+module _ (e new : EngineView) (steps : List Step) (s : EngineStandsFor e steps) (list : Rows)
+    (graded : (before : List (List Bool)) → HasGraded e before → HasGraded new (before ++ list.list)) where
+  abbrev longer : List Step
+  longer = steps ++ Vectors list ∷ []
+
+  stands_longer : (place : ℕ) (rest : List (List Bool))
+      → new ≡ record e { grader = new.grader; place = place; rest = rest }
+      → Follows e.circuit e.representatives e.settings steps (Vectors list)
+      → rest ≡ drop (length longer) (all_first e) → e.place ≤ place
+      → ((k : ℕ) → k < place → ¬ AwaitsVerdict e.circuit e.representatives e.settings longer k)
+      → AreVectors e.circuit list.list → EngineStandsFor new longer
+  stands_longer place rest after follows left from done wide =
+      let same = sym (entries_with_list steps list) in
+      let at : EngineView = record e { grader = new.grader; place = place; rest = rest } in
+      subst (λ (v : EngineView). EngineStandsFor v longer) (sym after)
+      (record {
+        latches = s.latches;
+        are = one_more steps (Vectors list) s.are follows;
+        rest = left;
+        graded = graded_more e new steps s list graded at after;
+        kinds = λ i l. subst (λ (entries : List Numbered). IsKindIn entries i (kind_at e i)) same (s.kinds i l);
+        done = done;
+        entered = λ k h.
+            let below = s.entered k (subst (λ (entries : List Numbered). HasEntry entries k) (sym same) h) in
+            omega (arith, below, from);
+        wide = subst (AreVectors e.circuit) (sym (vectors_more steps (Vectors list)))
+            (All-append (λ (v : List Bool). length v ≡ e.circuit.inputs) (vectors_of_steps steps) list.list s.wide
+            wide);
+        pass = subst (AllHold e.circuit e.settings) same s.pass;
+        found = s.found;
+        holds = s.holds;
+        enough = subst (AreEnough e.circuit e.settings.budget e.named_invariant.clauses) same s.enough;
+      })
+
 -- ---- one of the first vectors
 
 module _ (e new : EngineView) (steps : List Step) (s : EngineStandsFor e steps) (list : Rows)
     (g : GivesFirst e new list) where
-  abbrev with_first : List Step
-  with_first = steps ++ Vectors list ∷ []
-
   some_left : length steps < length (all_first e)
   some_left =
       let cut = length-drop (length steps) (all_first e) in
@@ -189,34 +222,17 @@ module _ (e new : EngineView) (steps : List Step) (s : EngineStandsFor e steps) 
       let P : List Bool → Type 0 = λ (v : List Bool). length v ≡ e.circuit.inputs in
       subst (λ (r : Rows). AreVectors e.circuit r.list) (sym g.given) (All-cons P g.vector [] g.wide (All-nil P))
 
-  first_stands : EngineStandsFor (record e { grader = new.grader; rest = g.rest }) with_first
-  first_stands =
-      let same = sym (entries_with_list steps list) in
-      let more : length steps + 1 ≡ length with_first =
-      let long = length-append steps (Vectors list ∷ []) in omega (arith, long) in
-      record {
-        latches = s.latches;
-        are = one_more steps (Vectors list) s.are first_follows;
-        rest = sym rest_is ∙ ap (λ (k : ℕ). drop k (all_first e)) more;
-        graded = graded_more e new steps s list g.graded (record e { grader = new.grader; rest = g.rest }) g.after;
-        kinds = λ i l. subst (λ (entries : List Numbered). IsKindIn entries i (kind_at e i)) same (s.kinds i l);
-        done = λ k l a. s.done k l
-            (awaited_before e.circuit e.representatives e.settings steps (Vectors list) k a);
-        entered = λ k h. s.entered k (subst (λ (entries : List Numbered). HasEntry entries k) (sym same) h);
-        wide = subst (AreVectors e.circuit) (sym (vectors_more steps (Vectors list)))
-            (All-append (λ (v : List Bool). length v ≡ e.circuit.inputs) (vectors_of_steps steps) list.list s.wide
-            list_wide);
-        pass = subst (AllHold e.circuit e.settings) same s.pass;
-        found = s.found;
-        holds = s.holds;
-        enough = subst (AreEnough e.circuit e.settings.budget e.named_invariant.clauses) same s.enough;
-      }
-
   pub first_made : MakesStep e new steps (Vectors list)
-  first_made = record {
-    follows = first_follows;
-    stands = subst (λ (v : EngineView). EngineStandsFor v with_first) (sym g.after) first_stands;
-  }
+  first_made =
+      let long = length-append steps (Vectors list ∷ []) in
+      let more : length steps + 1 ≡ length (steps ++ Vectors list ∷ []) = omega (arith, long) in
+      record {
+        follows = first_follows;
+        stands = stands_longer e new steps s list g.graded e.place g.rest g.after first_follows
+            (sym rest_is ∙ ap (λ (k : ℕ). drop k (all_first e)) more) (omega arith)
+            (λ k l a. s.done k l
+            (awaited_before e.circuit e.representatives e.settings steps (Vectors list) k a)) list_wide;
+      }
 
   pub first_means : MeansOfStep e steps (Vectors list)
   first_means = λ all. let some = some_left in absurd (omega (arith, all, some))
@@ -225,8 +241,8 @@ module _ (e new : EngineView) (steps : List Step) (s : EngineStandsFor e steps) 
 
 module _ (e new : EngineView) (steps : List Step) (s : EngineStandsFor e steps) (list : Rows)
     (g : GivesList e new list) where
-  abbrev longer : List Step
-  longer = steps ++ Vectors list ∷ []
+  abbrev with_list : List Step
+  with_list = steps ++ Vectors list ∷ []
 
   list_follows : Follows e.circuit e.representatives e.settings steps (Vectors list)
   list_follows = inr (record {
@@ -251,49 +267,28 @@ module _ (e new : EngineView) (steps : List Step) (s : EngineStandsFor e steps) 
     detects = holds.detects;
   }
 
-  detected_now : ¬ AwaitsVerdict e.circuit e.representatives e.settings longer g.fault
+  detected_now : ¬ AwaitsVerdict e.circuit e.representatives e.settings with_list g.fault
   detected_now a =
       subst (λ (list : List (List Bool)). IsFirstFrom e.circuit (fault_at e.circuit g.fault) e.settings.start list None)
       (vectors_more steps (Vectors list)) a.undetected holds.vector holds.output holds.detects
 
-  list_done : (k : ℕ) → k < g.fault + 1 → ¬ AwaitsVerdict e.circuit e.representatives e.settings longer k
+  list_done : (k : ℕ) → k < g.fault + 1 → ¬ AwaitsVerdict e.circuit e.representatives e.settings with_list k
   list_done k l a = elim (le_or_lt g.fault k) [
     | inl from ↦
         let at : k ≡ g.fault = omega (arith, from, l) in
-        detected_now (subst (AwaitsVerdict e.circuit e.representatives e.settings longer) at a)
+        detected_now (subst (AwaitsVerdict e.circuit e.representatives e.settings with_list) at a)
     | inr under ↦ (is_next e steps s g.fault g.next).least k under
         (awaited_before e.circuit e.representatives e.settings steps (Vectors list) k a)
   ]
 
-  list_stands : EngineStandsFor (record e { grader = new.grader; place = g.fault + 1 }) longer
-  list_stands =
-      let same = sym (entries_with_list steps list) in
-      record {
-        latches = s.latches;
-        are = one_more steps (Vectors list) s.are list_follows;
-        rest = none_more e steps s (Vectors list) g.none_left;
-        graded = graded_more e new steps s list g.graded (record e { grader = new.grader; place = g.fault + 1 })
-            g.after;
-        kinds = λ i l. subst (λ (entries : List Numbered). IsKindIn entries i (kind_at e i)) same (s.kinds i l);
-        done = list_done;
-        entered = λ k h.
-            let below = s.entered k (subst (λ (entries : List Numbered). HasEntry entries k) (sym same) h) in
-            let from = g.next.from in
-            omega (arith, below, from);
-        wide = subst (AreVectors e.circuit) (sym (vectors_more steps (Vectors list)))
-            (All-append (λ (v : List Bool). length v ≡ e.circuit.inputs) (vectors_of_steps steps) list.list s.wide
-            holds.wide);
-        pass = subst (AllHold e.circuit e.settings) same s.pass;
-        found = s.found;
-        holds = s.holds;
-        enough = subst (AreEnough e.circuit e.settings.budget e.named_invariant.clauses) same s.enough;
-      }
-
   pub list_made : MakesStep e new steps (Vectors list)
-  list_made = record {
-    follows = list_follows;
-    stands = subst (λ (v : EngineView). EngineStandsFor v longer) (sym g.after) list_stands;
-  }
+  list_made =
+      let from = g.next.from in
+      record {
+        follows = list_follows;
+        stands = stands_longer e new steps s list g.graded (g.fault + 1) e.rest g.after list_follows
+            (none_more e steps s (Vectors list) g.none_left) (omega (arith, from)) list_done holds.wide;
+      }
 
 -- ---- an entry
 

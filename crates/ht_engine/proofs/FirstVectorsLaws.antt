@@ -1,69 +1,99 @@
 -- Drawing the first vectors one by one.
-use Rattle.rand_pcg.specs.Lcg.{Lcg}
 use Rattle.std.proofs.Common.{◌≡◌, ◌<◌, ◌≤◌, ◌+◌, ◌++◌, ◌∷◌, ℕ, List, [], Bool, length, drop, get_or, refl, arith, ap, sym, ◌∙◌, subst}
 use Rattle.std.proofs.lemmas.List.{drop_all, drop_more}
 use Rattle.ht_random.specs.RandomVectors.{generator_after, random_vector, random_vectors}
+use Rattle.ht_random.specs.WeightedOf.{Drawn}
 use Rattle.ht_random.specs.WeightedVectors.{weighted_vector, weighted_vectors}
 use Rattle.ht_random.proofs.RandomVectorLaws.{random_vector_at, random_vector_length, random_vectors_count}
 use Rattle.ht_random.proofs.WeightedLaws.{weighted_vector_at, weighted_vector_length, weighted_vectors_count}
 use Rattle.ht_engine.specs.FirstVectors.{Draws, FirstView}
+use Rattle.ht_engine.specs.FirstVectorsOf.{first_of_fields}
+use Rattle.ht_engine.specs.declared.first_vectors.FirstVectors.TheInside.{Inside}
 
--- ---- the random vectors
+-- ---- what is left of some vectors after so many of them
 
-module _ (v : FirstView) (count seed k : ℕ) (there : k < count) (none : v.given ≡ [])
-    (is : v.random ≡ drop k (random_vectors v.width count seed)) where
-  pub random_drawn : (words : Lcg) → words ≡ generator_after v.width k seed → (vector : List Bool)
-      → vector ≡ random_vector v.width words
-      → Draws v vector (record v { random = drop (k + 1) (random_vectors v.width count seed) })
-  random_drawn words words_are vector vector_is =
-      let all = random_vectors v.width count seed in
-      let long = random_vectors_count v.width count seed in
-      let at : get_or all k [] ≡ vector =
-      random_vector_at v.width count seed k there
-      ∙ sym (vector_is ∙ ap (random_vector v.width) words_are) in
-      let here : v.random ≡ vector ∷ drop (k + 1) all =
-      is ∙ drop_more all k [] (omega (arith, there, long)) ∙ ap (λ (x : List Bool). x ∷ drop (k + 1) all) at in
-      record {
-        first = ap (λ (l : List (List Bool)). l ++ v.random ++ v.weighted) none
-            ∙ ap (λ (l : List (List Bool)). l ++ v.weighted) here
-            ∙ ap (λ (l : List (List Bool)). vector ∷ l ++ drop (k + 1) all ++ v.weighted) (sym none);
-        wide = ap (λ (x : List Bool). length x) vector_is ∙ random_vector_length v.width words;
+next_left : (all : List (List Bool)) (count k : ℕ) → length all ≡ count → k < count → (vector : List Bool)
+    → get_or all k [] ≡ vector → drop k all ≡ vector ∷ drop (k + 1) all
+next_left all count k long there vector at =
+    drop_more all k [] (omega (arith, there, long)) ∙ ap (λ (x : List Bool). x ∷ drop (k + 1) all) at
+
+none_left : (all : List (List Bool)) (count k : ℕ) → length all ≡ count → count ≤ k → drop k all ≡ []
+none_left all count k long over = drop_all k all (omega (arith, over, long))
+
+-- ---- what is left of the first vectors, by their fields
+
+module _ (a : Inside) (now : FirstView) (at : first_of_fields a ≡ now) where
+  abbrev v : FirstView
+  v = first_of_fields a
+
+  abbrev seed : ℕ
+  seed = a.settings.now.seed
+
+  abbrev random : List (List Bool)
+  random = random_vectors a.width a.settings.now.random seed
+
+  abbrev weighted : List (List Bool)
+  weighted = weighted_vectors a.width a.settings.now.weighted seed
+
+  -- what was drawn by the fields was drawn
+  drawn : (vector : List Bool) (new : FirstView) → Draws v vector new → Draws now vector new
+  drawn vector new h = subst (λ (x : FirstView). Draws x vector new) at h
+
+  none_given : now.given ≡ [] → v.given ≡ []
+  none_given none = ap (λ (x : FirstView). x.given) at ∙ none
+
+  -- the random vectors
+  pub random_came : a.settings.now.random ≤ a.random → now.random ≡ []
+  random_came over =
+      ap (λ (x : FirstView). x.random) (sym at)
+      ∙ none_left random a.settings.now.random a.random (random_vectors_count a.width a.settings.now.random seed) over
+
+  pub random_drawn : a.random < a.settings.now.random → now.given ≡ []
+      → a.words ≡ generator_after a.width a.random seed → (vector : List Bool) → vector ≡ random_vector a.width a.words
+      → Draws now vector (record v { random = drop (a.random + 1) random })
+  random_drawn there none words_are vector vector_is =
+      let count = a.settings.now.random in
+      let left : v.random ≡ vector ∷ drop (a.random + 1) random =
+      next_left random count a.random (random_vectors_count a.width count seed) there vector
+      (random_vector_at a.width count seed a.random there
+      ∙ sym (vector_is ∙ ap (random_vector a.width) words_are)) in
+      drawn vector (record v { random = drop (a.random + 1) random })
+      (record {
+        first = ap (λ (l : List (List Bool)). l ++ v.random ++ v.weighted) (none_given none)
+            ∙ ap (λ (l : List (List Bool)). l ++ v.weighted) left
+            ∙ ap (λ (l : List (List Bool)). vector ∷ l ++ drop (a.random + 1) random ++ v.weighted)
+            (sym (none_given none));
+        wide = ap (λ (x : List Bool). length x) vector_is ∙ random_vector_length a.width a.words;
         width = refl;
-      }
+      })
 
-pub random_all_came : (n count seed k : ℕ) → count ≤ k → drop k (random_vectors n count seed) ≡ []
-random_all_came n count seed k over =
-    let long = random_vectors_count n count seed in
-    drop_all k (random_vectors n count seed) (omega (arith, over, long))
+  -- the weighted vectors
+  pub weighted_came : a.settings.now.weighted ≤ a.weighted → now.weighted ≡ []
+  weighted_came over =
+      ap (λ (x : FirstView). x.weighted) (sym at)
+      ∙ none_left weighted a.settings.now.weighted a.weighted
+      (weighted_vectors_count a.width a.settings.now.weighted seed) over
 
--- ---- the weighted vectors
-
-module _ (v : FirstView) (count seed k : ℕ) (there : k < count) (none : v.given ≡ []) (none' : v.random ≡ [])
-    (is : v.weighted ≡ drop k (weighted_vectors v.width count seed)) where
-  pub weighted_drawn : (vector : List Bool) → vector ≡ weighted_vector v.width k seed
-      → Draws v vector (record v { weighted = drop (k + 1) (weighted_vectors v.width count seed) })
-  weighted_drawn vector vector_is =
-      let all = weighted_vectors v.width count seed in
-      let long = weighted_vectors_count v.width count seed in
-      let at : get_or all k [] ≡ vector = weighted_vector_at v.width count seed k there ∙ sym vector_is in
-      let here : v.weighted ≡ vector ∷ drop (k + 1) all =
-      is ∙ drop_more all k [] (omega (arith, there, long)) ∙ ap (λ (x : List Bool). x ∷ drop (k + 1) all) at in
-      record {
-        first = ap (λ (l : List (List Bool)). l ++ v.random ++ v.weighted) none
-            ∙ ap (λ (l : List (List Bool)). l ++ v.weighted) none'
-            ∙ here
-            ∙ ap (λ (l : List (List Bool)). vector ∷ l ++ drop (k + 1) all) (sym none')
-            ∙ ap (λ (l : List (List Bool)). vector ∷ l ++ v.random ++ drop (k + 1) all) (sym none);
-        wide = ap (λ (x : List Bool). length x) vector_is ∙ weighted_vector_length v.width k seed;
+  pub weighted_drawn : a.weighted < a.settings.now.weighted → now.given ≡ [] → now.random ≡ []
+      → a.bursts ≡ record { width = a.width; seed = seed; count = a.weighted } → (vector : List Bool)
+      → vector ≡ weighted_vector a.bursts.width a.bursts.count a.bursts.seed
+      → Draws now vector (record v { weighted = drop (a.weighted + 1) weighted })
+  weighted_drawn there none none' bursts_are vector drawn_is =
+      let count = a.settings.now.weighted in
+      let no_random : v.random ≡ [] = ap (λ (x : FirstView). x.random) at ∙ none' in
+      let vector_is : vector ≡ weighted_vector a.width a.weighted seed =
+      drawn_is ∙ ap (λ (d : Drawn). weighted_vector d.width d.count d.seed) bursts_are in
+      let left : v.weighted ≡ vector ∷ drop (a.weighted + 1) weighted =
+      next_left weighted count a.weighted (weighted_vectors_count a.width count seed) there vector
+      (weighted_vector_at a.width count seed a.weighted there ∙ sym vector_is) in
+      drawn vector (record v { weighted = drop (a.weighted + 1) weighted })
+      (record {
+        first = ap (λ (l : List (List Bool)). l ++ v.random ++ v.weighted) (none_given none)
+            ∙ ap (λ (l : List (List Bool)). l ++ v.weighted) no_random
+            ∙ left
+            ∙ ap (λ (l : List (List Bool)). vector ∷ l ++ drop (a.weighted + 1) weighted) (sym no_random)
+            ∙ ap (λ (l : List (List Bool)). vector ∷ l ++ v.random ++ drop (a.weighted + 1) weighted)
+            (sym (none_given none));
+        wide = ap (λ (x : List Bool). length x) vector_is ∙ weighted_vector_length a.width a.weighted seed;
         width = refl;
-      }
-
-pub weighted_all_came : (n count seed k : ℕ) → count ≤ k → drop k (weighted_vectors n count seed) ≡ []
-weighted_all_came n count seed k over =
-    let long = weighted_vectors_count n count seed in
-    drop_all k (weighted_vectors n count seed) (omega (arith, over, long))
-
--- what was drawn by its fields was drawn
-pub draws_by : (v now : FirstView) (vector : List Bool) (new : FirstView) → v ≡ now → Draws v vector new
-    → Draws now vector new
-draws_by v now vector new is h = subst (λ (x : FirstView). Draws x vector new) is h
+      })

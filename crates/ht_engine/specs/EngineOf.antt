@@ -18,10 +18,10 @@ engine_of a = record {
   representatives = a.classes.now;
   settings = a.settings.now;
   named_invariant = a.named_invariant;
-  grader = a.grader;
+  grader = a.tools.grader;
   kinds = a.kinds.items;
   place = a.place;
-  rest = rest_of a.first;
+  rest = rest_of a.tools.first;
   live = a.live;
 }
 
@@ -43,5 +43,5 @@ pub record IsEngine (e : EngineView) (listed : List Fault) (marked : List Bool) 
 -- The fields of an engine, with bases of its circuit, and first vectors that have a bit for each input.
 pub record AreEngineFields (a : Inside) : Type 0 where
   pub engine : IsEngine (engine_of a) a.faults.now a.chosen.items
-  pub bases : a.bases.circuit ≡ a.circuit.now
-  pub width : a.first.width ≡ a.circuit.now.inputs
+  pub bases : a.tools.bases.circuit ≡ a.circuit.now
+  pub width : a.tools.first.width ≡ a.circuit.now.inputs

@@ -1,5 +1,6 @@
 -- The vectors that come before all work, and those of them that are left.
-use Rattle.std.specs.Prelude.{◌≡◌, ◌∷◌, ◌++◌, ℕ, List, Bool, length}
+use Rattle.std.specs.Prelude.{◌≡◌, [], ◌∷◌, ◌++◌, ℕ, List, Vec, Bool, Option, MatchOption, length}
+use Rattle.std.specs.declared.alloc.Global.{Global}
 use Rattle.ht_random.specs.RandomVectors.{random_vectors}
 use Rattle.ht_random.specs.WeightedVectors.{weighted_vectors}
 use Rattle.ht_engine.specs.declared.settings.Settings.{Settings}
@@ -25,3 +26,8 @@ pub record Draws (old : FirstView) (vector : List Bool) (new : FirstView) : Type
   pub first : rest_of old ≡ vector ∷ rest_of new
   pub wide : length vector ≡ old.width
   pub width : new.width ≡ old.width
+
+-- The next vector was drawn, or none, and nothing is new, where none of these are left.
+abbrev pub DrawsNext : List (List Bool) → FirstView → FirstView → Option (Vec Bool Global) → Type 0
+DrawsNext left old new next =
+    MatchOption next ((left ≡ []) × (new ≡ old)) (λ (vector : Vec Bool Global). Draws old vector.items new)

@@ -1,15 +1,37 @@
--- What is said of the attempt at the told frame of a task: its circuit, fault and budget go along.
-use Rattle.std.specs.Prelude.{[], ◌∷◌}
+-- What is said of the rounds of refutation of a task, and of the attempt at the told frame of one: its fault and budget
+-- go along, and its invariant or its circuit.
+use Rattle.std.specs.Prelude.{◌≡◌, [], ◌∷◌, Option}
+use Rattle.ht_net.specs.Netlist.{Netlist}
 use Rattle.ht_net.specs.Rows.{Rows}
+use Rattle.ht_tree.specs.declared.entry.Entry.{Entry}
 use Rattle.ht_tree.specs.AimedAttempts.{back_limit, told_cube}
 use Rattle.ht_forward.specs.declared.ahead.Ahead.{Ahead}
 use Rattle.ht_justify.specs.declared.justification.Back.{Back}
 use Rattle.ht_justify.specs.Answers.{BackHolds, IsListBack}
 use Rattle.ht_engine.specs.declared.attempt.Attempted.{Attempted}
 use Rattle.ht_engine.specs.declared.attempt.Task.{Task}
-use Rattle.ht_engine.specs.declared.told_frame.ToldFrame.{ToldFrame}
-use Rattle.ht_engine.specs.Attempts.{AheadOfHolds, AttemptHolds, FindsAhead, FindsBoth, IsAheadOf, IsAttempted, IsBackOf, IsListAheadOf}
+use Rattle.ht_engine.specs.declared.work.FaultTask.{FaultTask}
+use Rattle.ht_engine.specs.declared.work.Rounds.{Rounds}
+use Rattle.ht_engine.specs.Attempts.{AheadOfHolds, AttemptHolds, FindsAhead, FindsBoth, IsAheadOf, IsAttempted, IsBackOf, IsFrameSpot, IsListAheadOf}
+use Rattle.ht_engine.specs.Enough.{RoundsSuffice}
+use Rattle.ht_engine.specs.FaultWork.{AreRounds, IsFromEntry}
 use Rattle.ht_engine.specs.ToldFrames.{IsFrameOf}
+
+-- ---- the rounds of refutation
+
+-- what the rounds come to
+abbrev pub AreTaskRounds : Netlist → FaultTask → Rounds → Type 0
+AreTaskRounds c t = AreRounds c t.fault t.budget t.invariant.now
+
+-- what they are enough for
+abbrev pub TaskRoundsSuffice : Netlist → FaultTask → Rounds → Type 0
+TaskRoundsSuffice c t = RoundsSuffice c t.fault t.budget t.invariant.now.clauses
+
+-- what the rounds under the clauses of the invariant give
+abbrev pub IsTaskFromEntry : Netlist → FaultTask → Option Entry → Type 0
+IsTaskFromEntry c t = IsFromEntry c t.fault t.budget t.invariant.now
+
+-- ---- the attempt
 
 -- the searches that lead to the end of the attempt
 abbrev pub IsTaskAttempt : Task → Attempted → Type 0
@@ -19,9 +41,15 @@ IsTaskAttempt t = IsAttempted t.circuit.now t.fault t.budget (t.told.now ∷ [])
 abbrev pub TaskAttemptHolds : Task → Attempted → Type 0
 TaskAttemptHolds t = AttemptHolds t.circuit.now t.fault t.budget (t.told.now ∷ [])
 
--- the latches that the frame needs, and its vector
-abbrev pub IsTaskFrame : Task → ToldFrame → Type 0
-IsTaskFrame t = IsFrameOf t.circuit.now t.told.now
+-- its frame has the latches that the told one needs, and its vector
+abbrev pub IsTaskFrame : Task → Type 0
+IsTaskFrame t = IsFrameOf t.circuit.now t.told.now t.frame
+
+-- the task is of this circuit, its frame is told at an output or at a next state, and has what the told one needs
+pub record IsTaskOf (c : Netlist) (t : Task) : Type 0 where
+  pub circuit : c ≡ t.circuit.now
+  pub place : IsFrameSpot t.told.now.place
+  pub frame : IsTaskFrame t
 
 -- what the search ahead comes to
 abbrev pub IsTaskAhead : Task → Ahead → Type 0

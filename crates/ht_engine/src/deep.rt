@@ -8,7 +8,7 @@ ghost use Rattle.ht_engine.specs.Enough.{IsEnough};
 ghost use Rattle.ht_engine.specs.FaultWork.{HoldsIfAny, IsOpenFault};
 
 use crate::settings::Settings;
-use crate::work::{Rounds, Work, refute, search_list};
+use crate::work::{FaultTask, Rounds, Work, refute, search_list};
 use ht_families::{closing, rows_of};
 use ht_forward::{Swept, sweep_on_from_bases};
 use ht_invariant::Invariant;
@@ -49,7 +49,12 @@ pub fn work_deep(
 {
     // for the proof: the circuit is well formed
     let _ = bases.circuit().nets();
-    match refute(alloc, bases, fault, settings.budget, invariant)? {
+    let task = FaultTask {
+        fault,
+        budget: settings.budget,
+        invariant,
+    };
+    match refute(alloc, bases, &task)? {
         Rounds::Refute(entry) => Ok(Work::Entry(entry)),
         Rounds::LeaveOpen { told, walk } => {
             work_open(alloc, bases, fault, settings, told, walk, states)

@@ -76,7 +76,9 @@ fn find_named(
 #[derive(Drop)]
 struct Tools<'c> {
     grader: ClassGrader<'c>,
+    // what the windows for each fault are copied from
     bases: Bases<'c>,
+    // the vectors that come before all work
     first: FirstVectors<'c>,
 }
 
@@ -123,19 +125,15 @@ pub struct Engine<'c> {
     faults: &'c FaultList,
     classes: &'c Classes,
     settings: &'c Settings,
-    grader: ClassGrader<'c>,
-    // what the windows for each fault are copied from
-    bases: Bases<'c>,
     // the clauses that hold in each run from the state that is named: the start, with 0 where it is unknown
     named_invariant: Invariant,
     // whether each fault is a representative that is to be worked on, by number from 0
     chosen: Vec<bool>,
     // the kind of each fault's entry, by number from 0
     kinds: Vec<Option<EntryKind>>,
+    tools: Tools<'c>,
     // the first fault that may still await its verdict
     place: u32,
-    // the vectors that come before all work
-    first: FirstVectors<'c>,
     live: bool,
 }
 
@@ -175,28 +173,17 @@ impl<'c> Engine<'c> {
         ensures settings { IfOk result (λ engine. engine.settings ≡ settings.now) }
         ensures live { IfOk result (λ engine. engine.live ≡ true) }
     {
-        let named_invariant = find_named(alloc, circuit, settings)?;
-        let chosen = mark_chosen(alloc, classes, settings)?;
-        let kinds = no_kinds(alloc, classes.len())?;
-        let tools = Tools::new(alloc, circuit, faults, classes, settings)?;
-        let Tools {
-            grader,
-            bases,
-            first,
-        } = tools;
         Ok(Engine {
             alloc,
             circuit,
             faults,
             classes,
             settings,
-            grader,
-            bases,
-            named_invariant,
-            chosen,
-            kinds,
+            named_invariant: find_named(alloc, circuit, settings)?,
+            chosen: mark_chosen(alloc, classes, settings)?,
+            kinds: no_kinds(alloc, classes.len())?,
+            tools: Tools::new(alloc, circuit, faults, classes, settings)?,
             place: 0,
-            first,
             live: true,
         })
     }
@@ -220,7 +207,7 @@ impl<'c> Engine<'c> {
         if !self.chosen[i as usize] {
             return false;
         }
-        self.grader.verdict(i).is_none()
+        self.tools.grader.verdict(i).is_none()
     }
 
     // The least fault from the place on that is to be worked on and isn't detected.
@@ -243,7 +230,7 @@ impl<'c> Engine<'c> {
             (λ vector. DrawsFirst self.old vector.items self.new)) }
         ensures same { OnErr result (self.new ≡ self.old) }
     {
-        self.first.next(self.alloc)
+        self.tools.first.next(self.alloc)
     }
 
     // Gives one of the first vectors by itself, and keeps it.
@@ -256,7 +243,7 @@ impl<'c> Engine<'c> {
     {
         let mut one = Vectors::new(self.alloc, self.circuit.inputs());
         one.push(&vector)?;
-        self.grader.apply(&one)?;
+        self.tools.grader.apply(&one)?;
         Ok(Step::Vectors(one))
     }
 
@@ -271,8 +258,8 @@ impl<'c> Engine<'c> {
         ensures each { IfOk result (λ states. IsStart self.now.circuit states.good
             × IsStart self.now.circuit states.bad) }
     {
-        let good = self.grader.good_state(self.alloc)?;
-        let faulty = self.grader.faulty_state(self.alloc, fault)?;
+        let good = self.tools.grader.good_state(self.alloc)?;
+        let faulty = self.tools.grader.faulty_state(self.alloc, fault)?;
         Ok(PairState {
             good: Items::from_vec(good),
             bad: Items::from_vec(faulty),
@@ -289,7 +276,7 @@ impl<'c> Engine<'c> {
         match self.settings.search {
             Search::Plain => work_on(
                 self.alloc,
-                &mut self.bases,
+                &mut self.tools.bases,
                 listed,
                 self.settings.budget,
                 &self.named_invariant,
@@ -298,7 +285,7 @@ impl<'c> Engine<'c> {
                 let states = self.states_reached(fault)?;
                 work_deep(
                     self.alloc,
-                    &mut self.bases,
+                    &mut self.tools.bases,
                     listed,
                     self.settings,
                     &self.named_invariant,
@@ -317,7 +304,7 @@ impl<'c> Engine<'c> {
         ensures advances { IfOk result (Advances self.old self.new) }
         ensures same { OnErr result (HasSameWork self.old self.new) }
     {
-        self.grader.apply(&list)?;
+        self.tools.grader.apply(&list)?;
         self.place = fault + 1;
         Ok(Step::Vectors(list))
     }
@@ -399,7 +386,7 @@ impl<'c> Engine<'c> {
             → IsSaid self.now.circuit self.now.settings.start steps fault result }
         ensures sayable { IsSayable self.now.circuit result }
     {
-        match self.grader.verdict(fault) {
+        match self.tools.grader.verdict(fault) {
             Some(place) => Said::Detected(place),
             None => said_by(self.kinds[fault as usize]),
         }

@@ -1,6 +1,6 @@
 //! The vectors that come before all work: the given ones, the random ones and the weighted ones.
-ghost use Rattle.std.specs.Prelude.{◌≡◌, [], IfOk, MatchOption, OnErr};
-ghost use Rattle.ht_engine.specs.FirstVectors.{Draws, first_of, rest_of};
+ghost use Rattle.std.specs.Prelude.{◌≡◌, [], IfOk, OnErr};
+ghost use Rattle.ht_engine.specs.FirstVectors.{DrawsNext, first_of, rest_of};
 
 use crate::settings::Settings;
 use ht_random::{WeightedVectors, Words};
@@ -62,9 +62,7 @@ impl<'s> FirstVectors<'s> {
 
     // The next of the given vectors, or none where all came.
     fn next_given(&mut self, alloc: Global) -> Result<Option<Vec<bool>>, AllocError>
-        ensures next { IfOk result (λ next. MatchOption next
-            ((self.old.given ≡ []) × (self.new ≡ self.old))
-            (λ vector. Draws self.old vector.items self.new)) }
+        ensures next { IfOk result (DrawsNext self.old.given self.old self.new) }
         ensures same { OnErr result (self.new ≡ self.old) }
     {
         if self.given >= self.settings.first.len() {
@@ -78,9 +76,7 @@ impl<'s> FirstVectors<'s> {
     // The next of the random vectors, or none where all came: they come after the given ones.
     fn next_random(&mut self, alloc: Global) -> Result<Option<Vec<bool>>, AllocError>
         requires { self.old.given ≡ [] }
-        ensures next { IfOk result (λ next. MatchOption next
-            ((self.old.random ≡ []) × (self.new ≡ self.old))
-            (λ vector. Draws self.old vector.items self.new)) }
+        ensures next { IfOk result (DrawsNext self.old.random self.old self.new) }
         ensures same { OnErr result (self.new ≡ self.old) }
     {
         if self.random >= self.settings.random {
@@ -95,9 +91,7 @@ impl<'s> FirstVectors<'s> {
     fn next_weighted(&mut self, alloc: Global) -> Result<Option<Vec<bool>>, AllocError>
         requires given { self.old.given ≡ [] }
         requires random { self.old.random ≡ [] }
-        ensures next { IfOk result (λ next. MatchOption next
-            ((self.old.weighted ≡ []) × (self.new ≡ self.old))
-            (λ vector. Draws self.old vector.items self.new)) }
+        ensures next { IfOk result (DrawsNext self.old.weighted self.old self.new) }
         ensures same { OnErr result (self.new ≡ self.old) }
     {
         if self.weighted >= self.settings.weighted {
@@ -113,9 +107,7 @@ impl<'s> FirstVectors<'s> {
     /// # Errors
     /// Out of memory; no vector is drawn.
     pub fn next(&mut self, alloc: Global) -> Result<Option<Vec<bool>>, AllocError>
-        ensures next { IfOk result (λ next. MatchOption next
-            ((rest_of self.old ≡ []) × (self.new ≡ self.old))
-            (λ vector. Draws self.old vector.items self.new)) }
+        ensures next { IfOk result (DrawsNext (rest_of self.old) self.old self.new) }
         ensures same { OnErr result (self.new ≡ self.old) }
     {
         if let Some(vector) = self.next_given(alloc)? {

@@ -12,7 +12,7 @@ is_above_zero (suc n) is = omega arith
 pub refute_under-requires : goal.refute_under-requires
 refute_under-requires c =
     let is = c.as_slice-clauses.ensures in
-    let some : 0 < length c.args.invariant.now.clauses =
+    let some : 0 < length c.args.task.now.invariant.now.clauses =
     subst (λ (l : List Clause). 0 < length l) is
     (is_above_zero (length c.as_slice-clauses.result.now) (sym c.is_empty.ensures ∙ c.if-is_empty.false)) in
     subst (All (IsClause c.args.bases.now.circuit)) (sym is) (c.requires some).known

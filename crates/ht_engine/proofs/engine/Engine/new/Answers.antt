@@ -38,7 +38,7 @@ mark_chosen-requires c = classes_listed c.args.circuit.now c.args.classes.now c.
 
 pub invariant_of-result : goal.invariant_of-result
 invariant_of-result c =
-    let tools = c.in_ok-tools.ensures in
+    let tools = c.in_ok-new.ensures in
     record {
       engine = record {
         faults = c.requires.faults;
@@ -46,12 +46,12 @@ invariant_of-result c =
         circuit = tools.circuit;
         representatives = tools.classes;
         budget = c.requires.budget;
-        kinds = c.in_ok-kinds.ensures.each ∙ c.len.ensures;
+        kinds = c.in_ok-no_kinds.ensures.each ∙ c.len.ensures;
         place = omega arith;
-        found = c.in_ok-named_invariant.ensures.found;
-        holds = c.in_ok-named_invariant.ensures.holds;
+        found = c.in_ok-find_named.ensures.found;
+        holds = c.in_ok-find_named.ensures.holds;
         latches = c.requires.latches;
-        marks = c.in_ok-chosen.ensures;
+        marks = c.in_ok-mark_chosen.ensures;
       };
       bases = tools.bases;
       width = tools.width;
@@ -60,14 +60,14 @@ invariant_of-result c =
 pub returns-clause-none : goal.returns-clause-none
 returns-clause-none c =
     let count = c.len.ensures in
-    let tools = c.in_ok-tools.ensures in
+    let tools = c.in_ok-new.ensures in
     new_stands _ c.requires.latches
     (record {
       circuit = tools.circuit;
       representatives_same = tools.classes;
       stands = tools.stands;
     })
-    (λ i l. c.in_ok-kinds.ensures.none i (omega (arith, l, count))) refl
+    (λ i l. c.in_ok-no_kinds.ensures.none i (omega (arith, l, count))) refl
     tools.rest
-    c.in_ok-named_invariant.ensures.found
-    c.in_ok-named_invariant.ensures.holds
+    c.in_ok-find_named.ensures.found
+    c.in_ok-find_named.ensures.holds

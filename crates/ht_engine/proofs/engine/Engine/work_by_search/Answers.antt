@@ -16,12 +16,12 @@ state_of_bases now e bases state at b each =
 
 pub work_deep-requires-clause-good : goal.work_deep-requires-clause-good
 work_deep-requires-clause-good c =
-    state_of_bases c.args.self.now (engine_of c.self.inside) c.self.inside.bases.circuit
+    state_of_bases c.args.self.now (engine_of c.self.inside) c.self.inside.tools.bases.circuit
     c.in_ok-states-in-Deep.states.good c.self.view_is c.self.invariant.bases c.in_ok-states-in-Deep.ensures.each.0
 
 pub work_deep-requires-clause-bad : goal.work_deep-requires-clause-bad
 work_deep-requires-clause-bad c =
-    state_of_bases c.args.self.now (engine_of c.self.inside) c.self.inside.bases.circuit
+    state_of_bases c.args.self.now (engine_of c.self.inside) c.self.inside.tools.bases.circuit
     c.in_ok-states-in-Deep.states.bad c.self.view_is c.self.invariant.bases c.in_ok-states-in-Deep.ensures.each.1
 
 pub returns-in-Plain-clause-work : goal.returns-in-Plain-clause-work
@@ -29,7 +29,7 @@ returns-in-Plain-clause-work c =
     if_ok_three c.work_on.result _ _ _ _
     (λ w is holds enough. plain_on (engine_of c.self.inside) c.args.self.now c.self.inside.faults.now
     c.self.inside.chosen.items c.self.invariant.engine c.self.view_is
-    c.self.inside.bases.circuit c.args.fault c.get-listed.result c.self.invariant.bases c.get-listed.ensures
+    c.self.inside.tools.bases.circuit c.args.fault c.get-listed.result c.self.invariant.bases c.get-listed.ensures
     (ap (λ (v : EngineView). v.settings.search) (sym c.self.view_is) ∙ c.in-Plain.is) w is holds enough)
     c.work_on.ensures.answer c.work_on.ensures.holds c.work_on.ensures.enough
 
@@ -38,7 +38,7 @@ returns-in_ok-states-in-Deep-clause-work c =
     if_ok_three c.work_deep.result _ _ _ _
     (λ w is holds enough. deep_on (engine_of c.self.inside) c.args.self.now c.self.inside.faults.now
     c.self.inside.chosen.items c.self.invariant.engine c.self.view_is
-    c.self.inside.bases.circuit c.args.fault c.get-listed.result c.self.invariant.bases c.get-listed.ensures
+    c.self.inside.tools.bases.circuit c.args.fault c.get-listed.result c.self.invariant.bases c.get-listed.ensures
     (ap (λ (v : EngineView). v.settings.search) (sym c.self.view_is) ∙ c.in-Deep.is)
     c.in_ok-states-in-Deep.states.good c.in_ok-states-in-Deep.states.bad c.in_ok-states-in-Deep.ensures.good
     c.in_ok-states-in-Deep.ensures.faulty w is holds enough)
