@@ -10,7 +10,7 @@ use Rattle.ht_net.specs.Faults.{bool_rules, tern_rules}
 use Rattle.ht_net.specs.Frame.{next_state, run_state}
 use Rattle.ht_net.specs.Netlist.{Netlist}
 use Rattle.ht_net.proofs.FaultLaws.{machine_bits}
-use Rattle.ht_net.proofs.RelationLaws.{get_related, next_related}
+use Rattle.ht_net.proofs.RelationLaws.{next_related}
 use Rattle.ht_tree.specs.FoundLists.{list_of}
 use Rattle.ht_tree.specs.Places.{set_at}
 use Rattle.ht_tree.specs.Reached.{AreVectors}
@@ -28,7 +28,7 @@ use Rattle.ht_records.proofs.RunLaws.{AllowsRun, next_has}
 use Rattle.ht_records.proofs.RunStateLaws.{end_state, nth, run_held, state_in, unknown_held}
 use Rattle.ht_records.proofs.ShownLaws.{next_at, unknown_at}
 use Rattle.ht_records.proofs.SureLaws.{list_length}
-use Rattle.ht_records.proofs.WidthLaws.{fit_length, fit_list, fit_vectors, state_refines}
+use Rattle.ht_records.proofs.WidthLaws.{fit_length, fit_list, fit_vectors, reaches_fitted}
 use Rattle.ht_forward.specs.RunGoals.{RunHas}
 use Rattle.ht_forward.specs.Lengths.{AreShort}
 use Rattle.ht_sync.specs.SyncWindows.{last_set, sync_goal, sync_guide, sync_window}
@@ -91,17 +91,7 @@ definite_more a b (inr e) h = ap is_definite e ∙ h
 -- a list at the circuit's width synchronizes where the list itself does
 fitted_synchronizes : (c : Netlist) (list : List (List Bool)) → Synchronizes c list → Synchronizes c (fit_list c list)
 fitted_synchronizes c list h j l =
-    let start = unknown_state c in
-    let k = fit_length c list in
-    let after : List Tern = state_after c (fit_list c list) in
-    let before : List Tern = state_after c list in
-    let end : after ≡ state_in c None start (fit_list c list) (length list) =
-    end_state c None start (fit_list c list) ∙ ap (state_in c None start (fit_list c list)) k in
-    let all : AllRelated Refines after before =
-    subst (λ (s : List Tern). AllRelated Refines s before) (sym end)
-    (subst (λ (s : List Tern). AllRelated Refines (state_in c None start (fit_list c list) (length list)) s)
-    (sym (end_state c None start list)) (state_refines c None start list (length list) (omega arith))) in
-    definite_more _ _ (get_related Refines after before j Unk Unk all (inr refl)) (h j l)
+    definite_more _ _ (reaches_fitted c list (state_after c list) (λ i k. inr refl) j l) (h j l)
 
 -- a complete walk of k frames: no list of k vectors synchronizes
 pub complete_unsynchronized : (c : Netlist) (k : ℕ) (tokens : List Token) → 0 < k

@@ -36,11 +36,7 @@ pub fn write_sync_body(
     let mut text = Vec::new(alloc);
     push_head(&mut text, circuit.dffs(), budget)?;
     match answer {
-        Synchronized::Found {
-            list,
-            state: _,
-            walks,
-        } => {
+        Synchronized::Found { list, walks, .. } => {
             push_lengths(&mut text, walks.as_slice())?;
             push_counted(&mut text, b"found ", list.len())?;
         },
@@ -58,11 +54,7 @@ pub fn write_sync_last(alloc: Global, answer: &Synchronized) -> Result<Vec<u8>, 
 {
     let mut line = Vec::new(alloc);
     match answer {
-        Synchronized::Found {
-            list: _,
-            state,
-            walks: _,
-        } => {
+        Synchronized::Found { state, .. } => {
             let bits = state.as_slice();
             line.extend_from_slice(b"state ")?;
             if bits.is_empty() {
@@ -86,11 +78,7 @@ pub fn write_sync_said(alloc: Global, answer: &Synchronized) -> Result<Vec<u8>, 
 {
     let mut line = Vec::new(alloc);
     match answer {
-        Synchronized::Found {
-            list,
-            state: _,
-            walks: _,
-        } => push_counted(&mut line, b"sync ", list.len())?,
+        Synchronized::Found { list, .. } => push_counted(&mut line, b"sync ", list.len())?,
         Synchronized::Spent { walks } => {
             let complete = (walks.as_slice().len() as u64).saturating_sub(1);
             push_counted(&mut line, b"spent ", complete)?
