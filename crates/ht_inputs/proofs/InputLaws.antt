@@ -78,14 +78,27 @@ start_is (Some n) texts basis start is stated says =
     (start_or_malformed (length basis.circuit.dffs) (texts Extra)).one_value start basis.content.start is (says n refl)
 start_is None texts basis start is stated says = is ∙ sym (stated refl)
 
+-- the texts of `check` are valid files for a circuit, its classes and a start
+abbrev AreValidTexts : (InPort → List ℕ) → net.Netlist → List ℕ → List Tern → Type 0
+AreValidTexts texts c representatives start =
+    AreValidFiles c representatives start (texts Tests) (texts Report) (texts Proofs)
+
+-- those of `report` justify a report for a budget
+abbrev JustifyTexts : (InPort → List ℕ) → ℕ → net.Netlist → List ℕ → List Tern → Type 0
+JustifyTexts texts budget c representatives start =
+    JustifyReport c representatives start budget (texts Tests) (texts Proofs)
+
+-- a circuit, its classes and a start that the texts say, of which this isn't so
+abbrev IsDenied : (InPort → List ℕ) → Option (List ℕ) → (net.Netlist → List ℕ → List Tern → Type 0) → Type 0
+IsDenied texts start AreSo = HasCircuit texts (λ c. (representatives : List ℕ) × (values : List Tern)
+    × AreClasses c representatives × IsStartOf start c texts values × (¬ AreSo c representatives values))
+
 -- files that a judge denies for each circuit, classes and start that their texts say are denied for those of the basis
 denied_texts : (start : Option (List ℕ)) (texts : InPort → List ℕ) (basis : JobBasis)
     → (start ≡ None → basis.content.start ≡ unknown_state basis.circuit)
     → IsGoodNetlist (texts Netlist) basis.circuit × AreClasses basis.circuit basis.representatives
     → ((n : List ℕ) → start ≡ Some n → IsStartText (length basis.circuit.dffs) (texts Extra) basis.content.start)
-    → (AreSo : net.Netlist → List ℕ → List Tern → Type 0)
-    → HasCircuit texts (λ c. (representatives : List ℕ) × (values : List Tern) × AreClasses c representatives
-    × IsStartOf start c texts values × (¬ AreSo c representatives values))
+    → (AreSo : net.Netlist → List ℕ → List Tern → Type 0) → IsDenied texts start AreSo
     → ¬ AreSo basis.circuit basis.representatives basis.content.start
 denied_texts start texts basis stated named says AreSo denied so =
     let (c, circuit, (representatives, values, classes, is, none)) = denied in
@@ -158,7 +171,7 @@ say_none (check netlist tests report proofs start) texts Proofs name status basi
     let good = says Report report (omega arith) refl in
     let proved = says Proofs proofs (omega arith) refl in
     denied_texts start texts basis stated named (λ n reads. says Extra n (omega arith) reads)
-    (λ c representatives values. AreValidFiles c representatives values (texts Tests) (texts Report) (texts Proofs)) r.1 (
+    (AreValidTexts texts) r.1 (
       basis.content,
       record {
         stated = refl;
@@ -172,7 +185,7 @@ say_none (asked.report netlist tests proofs out budget start) texts Proofs name 
     let proved = says Proofs proofs (omega arith) refl in
     denied_texts start texts basis stated (says Netlist netlist (omega arith) refl)
     (λ n reads. says Extra n (omega arith) reads)
-    (λ c representatives values. JustifyReport c representatives values budget (texts Tests) (texts Proofs)) r.1
+    (JustifyTexts texts budget) r.1
     (basis.content, refl, proved.0, says Tests tests (omega arith) refl, proved.1)
 say_none job texts Extra name status basis stated reads r says = let none : None ≡ Some name = reads in cc
 say_none job texts port name status basis stated reads r says = r
@@ -200,6 +213,14 @@ module _ (texts : InPort → List ℕ) (basis : JobBasis) where
   vectors_of (Some n) says = (basis.content.list, says n refl)
   vectors_of None says = ([], refl)
 
+  -- those of the basis are such, if this isn't so of them
+  is_denied : (start : Option (List ℕ)) (AreSo : net.Netlist → List ℕ → List Tern → Type 0)
+      → IsGoodNetlist (texts Netlist) basis.circuit × AreClasses basis.circuit basis.representatives
+      → IsStartOf start basis.circuit texts basis.content.start
+      → ¬ AreSo basis.circuit basis.representatives basis.content.start → IsDenied texts start AreSo
+  is_denied start AreSo good from none =
+      (basis.circuit, good.0, (basis.representatives, basis.content.start, good.1, from, none))
+
   -- files that have a first trouble aren't valid
   denied : (netlist tests report proofs : List ℕ) (start : Option (List ℕ)) (e : Trouble)
       → SaysBasis (check netlist tests report proofs start) basis Netlist (texts Netlist)
@@ -213,19 +234,9 @@ module _ (texts : InPort → List ℕ) (basis : JobBasis) where
     refl,
     (
       refl,
-      (
-        basis.circuit,
-        good.0,
-        (
-          basis.representatives,
-          basis.content.start,
-          good.1,
-          from,
-          λ valid.
-              valid_has_no_trouble basis.circuit basis.representatives basis.content.start (texts Tests)
-              (texts Report) (texts Proofs) good.0.stands.is_circuit valid.0 e valid.1 first,
-        ),
-      ),
+      is_denied start (AreValidTexts texts) good from (λ valid.
+          valid_has_no_trouble basis.circuit basis.representatives basis.content.start (texts Tests) (texts Report)
+          (texts Proofs) good.0.stands.is_circuit valid.0 e valid.1 first),
     ),
   )
 
@@ -240,20 +251,7 @@ module _ (texts : InPort → List ℕ) (basis : JobBasis) where
     Proofs,
     proofs,
     refl,
-    (
-      refl,
-      (
-        basis.circuit,
-        good.0,
-        (
-          basis.representatives,
-          basis.content.start,
-          good.1,
-          from,
-          λ justify. justifies_none justify e first,
-        ),
-      ),
-    ),
+    (refl, is_denied start (JustifyTexts texts budget) good from (λ justify. justifies_none justify e first)),
   )
     where
       justifies_none : JustifyReport basis.circuit basis.representatives basis.content.start budget (texts Tests)
@@ -302,65 +300,25 @@ module _ (texts : InPort → List ℕ) (basis : JobBasis) where
       (Extra, name, reads, (refl, (basis.circuit, before Netlist netlist (omega arith) refl, (line, refused))))
   refused_with (respond netlist tests out fault start) (BadTests line) at name stated has is h =
       let (refused, before, reads) = h Tests refl in
-      let from = start_of start stated (λ n reads. before Extra n (omega arith) reads) in (
-        Tests,
-        tests,
-        refl,
-        (
-          refl,
-          (
-            basis.circuit,
-            before Netlist netlist (omega arith) refl,
-            (basis.content.start, line, from, has line refl, refused),
-          ),
-        ),
-      )
+      let from = start_of start stated (λ n reads. before Extra n (omega arith) reads) in
+      let good = before Netlist netlist (omega arith) refl in
+      (Tests, tests, refl, (refl, (basis.circuit, good, (basis.content.start, line, from, has line refl, refused))))
   refused_with (sim netlist tests report start) (BadTests line) at name stated has is h =
       let (refused, before, reads) = h Tests refl in
-      let from = start_of start stated (λ n reads. before Extra n (omega arith) reads) in (
-        Tests,
-        tests,
-        refl,
-        (
-          refl,
-          (
-            basis.circuit,
-            before Netlist netlist (omega arith) refl,
-            (basis.content.start, line, from, refused),
-          ),
-        ),
-      )
+      let from = start_of start stated (λ n reads. before Extra n (omega arith) reads) in
+      let good = before Netlist netlist (omega arith) refl in
+      (Tests, tests, refl, (refl, (basis.circuit, good, (basis.content.start, line, from, refused))))
   refused_with (gen netlist tests report proofs options) (BadTests line) at name stated has is h =
       let (refused, before, reads) = h Tests refl in
-      let from = start_of options.start stated (λ n reads. before Extra n (omega arith) reads) in (
-        Tests,
-        name,
-        reads,
-        (
-          refl,
-          (
-            basis.circuit,
-            before Netlist netlist (omega arith) refl,
-            (basis.content.start, line, from, refused),
-          ),
-        ),
-      )
+      let from = start_of options.start stated (λ n reads. before Extra n (omega arith) reads) in
+      let good = before Netlist netlist (omega arith) refl in
+      (Tests, name, reads, (refl, (basis.circuit, good, (basis.content.start, line, from, refused))))
   refused_with (gen netlist tests report proofs options) (BadFaults line) at name stated has is h =
       let (refused, before, reads) = h Faults refl in
       let from = start_of options.start stated (λ n reads. before Extra n (omega arith) reads) in
-      let vectors = vectors_of options.first (λ n reads. before Tests n (omega arith) reads) in (
-        Faults,
-        name,
-        reads,
-        (
-          refl,
-          (
-            basis.circuit,
-            before Netlist netlist (omega arith) refl,
-            (basis.content.start, vectors.0, line, from, vectors.1, refused),
-          ),
-        ),
-      )
+      let (list, vectors) = vectors_of options.first (λ n reads. before Tests n (omega arith) reads) in
+      let good = before Netlist netlist (omega arith) refl in
+      (Faults, name, reads, (refl, (basis.circuit, good, (basis.content.start, list, line, from, vectors, refused))))
   refused_with job (BadFaults line) at name stated has is h = let none : None ≡ Some name = (h Faults refl).2 in cc
   refused_with (compact netlist tests out) (BadTests line) at name stated has is h =
       let (refused, before, reads) = h Tests refl in
@@ -372,19 +330,10 @@ module _ (texts : InPort → List ℕ) (basis : JobBasis) where
       let (refused, before, reads) = h Tests refl in
       (Tests, tests, refl, (refl, (basis.circuit, before Netlist netlist (omega arith) refl, (line, refused))))
   refused_with (diagnose netlist tests responses out) (BadResponses line) at name stated has is h =
-      let (refused, before, reads) = h Extra refl in (
-        Extra,
-        responses,
-        refl,
-        (
-          refl,
-          (
-            basis.circuit,
-            before Netlist netlist (omega arith) refl,
-            (basis.content.list, before Tests tests (omega arith) refl, (line, refused)),
-          ),
-        ),
-      )
+      let (refused, before, reads) = h Extra refl in
+      let vectors = before Tests tests (omega arith) refl in
+      let good = before Netlist netlist (omega arith) refl in
+      (Extra, responses, refl, (refl, (basis.circuit, good, (basis.content.list, vectors, (line, refused)))))
   refused_with (check netlist tests report proofs start) (Denied (trouble.Tests line)) at name stated has is h =
       let (refused, before, reads) = h Tests refl in
       denied netlist tests report proofs start (trouble.Tests line) (before Netlist netlist (omega arith) refl)

@@ -7,6 +7,7 @@ use Rattle.ht_tern.specs.declared.tern.Tern.{Tern}
 use Rattle.ht_net.specs.Netlist as net
 use Rattle.ht_net.specs.Netlist.{IsCircuit}
 use Rattle.ht_net.specs.Detection.{IsStart}
+use Rattle.ht_net.specs.declared.place.Place.{Place}
 use Rattle.ht_faults.specs.Sites.{faults_of}
 use Rattle.ht_faults.specs.Classes.{AreClasses}
 use Rattle.ht_proofs.specs.Detections.{AreFirstDetections}
@@ -16,8 +17,9 @@ use Rattle.ht_valid.specs.declared.trouble.Trouble.TheVariants as trouble
 use Rattle.ht_asked.specs.Asked.{Asked}
 use Rattle.ht_words.specs.declared.job.RunFiles.{RunFiles}
 use Rattle.ht_inputs.specs.declared.graded.Graded.{Graded}
-use Rattle.ht_inputs.specs.declared.run_error.RunError.TheVariants.{Denied}
-use Rattle.ht_inputs.specs.Inputs.{HasFault, HasNetlist, IsGoodNetlist, JobBasis, SaysBasis}
+use Rattle.ht_inputs.specs.declared.run_error.RunError.{RunError}
+use Rattle.ht_inputs.specs.declared.run_error.RunError.TheVariants.{BadTests, Denied}
+use Rattle.ht_inputs.specs.Inputs.{HasFault, HasNetlist, IsGoodNetlist, JobBasis, SaysBasis, WasRead}
 use Rattle.ht_inputs.specs.Judging.{judged_basis}
 use Rattle.ht_inputs.specs.Jobs.{input_name, may_state_start}
 use Rattle.ht_inputs.specs.Refusals.{refused_port}
@@ -26,6 +28,19 @@ use Rattle.ht_inputs.specs.Reading.{HasReadTo}
 -- a malformed line of the tests is the job's first trouble
 abbrev pub DeniesTests : Asked → Type 0
 DeniesTests job = (line : ℕ) → refused_port job (Denied (trouble.Tests line)) ≡ Some Tests
+
+-- the error by which such a job ends, where this one ends the reading of tests
+abbrev pub denied_tests : RunError → RunError
+denied_tests (BadTests line) = Denied (trouble.Tests line)
+denied_tests error = error
+
+-- The tests of this name were read, and their vectors detect each representative at these places first, from the start.
+pub record TestsDetect (c : net.Netlist) (representatives : List ℕ) (start : List Tern) (name : List ℕ)
+    (old : DeskView) (places : List (Option Place)) : Type 0 where
+  pub list : List (List Bool)
+  pub few : length list ≤ max_text_bytes
+  pub read : WasRead Tests name (λ text. IsTestText c text list) old
+  pub first : AreFirstDetections c representatives start list places
 
 -- The job reads these files, of which the netlist says the circuit and its classes, and the tests say the vectors; and
 -- it denies tests. It names no fault that a circuit might not have.

@@ -26,7 +26,10 @@ struct FaultsReader {
 }
 
 impl LineJudge for FaultsReader {
+    ghost use Rattle.ht_texts.specs.declared.limits.TheConstants.{MAX_LINE_BYTES};
     ghost use Rattle.ht_inputs.specs.declared.run_error.RunError.TheVariants.{BadFaults};
+
+    ghost most_bytes = { MAX_LINE_BYTES };
 
     ghost live = { λ reader. Unit {0} };
 
@@ -45,6 +48,10 @@ impl LineJudge for FaultsReader {
             return Err(RunError::BadFaults { line: number });
         }
         Ok(())
+    }
+
+    fn longest(&self) -> u32 {
+        MAX_LINE_BYTES
     }
 
     fn too_long(&self, line: u64) -> RunError {
@@ -71,15 +78,7 @@ fn read_fault_list<D: Desk>(
         numbers: Vec::new(alloc),
         count,
     };
-    read_lines(
-        alloc,
-        desk,
-        InPort::Faults,
-        name,
-        MAX_LINE_BYTES,
-        u64::MAX,
-        &mut reader,
-    )?;
+    read_lines(alloc, desk, InPort::Faults, name, u64::MAX, &mut reader)?;
     Ok(Items::from_vec(reader.numbers))
 }
 

@@ -1,13 +1,14 @@
 //! What the netlist, the start and the tests say, by which a report and proofs are judged.
-ghost use Rattle.std.specs.Prelude.{◌≡◌, ◌≤◌, List, ℕ, length, IfOk, IfErr};
+ghost use Rattle.std.specs.Prelude.{◌≡◌, IfOk, IfErr};
 ghost use Rattle.ht_ports.specs.Desk.{InCall};
-ghost use Rattle.ht_ports.specs.LineRule.{max_text_bytes};
 ghost use Rattle.ht_ports.specs.declared.ports.InPort.TheVariants as in_port;
 ghost use Rattle.ht_net.specs.Netlist.{IsCircuit};
-ghost use Rattle.ht_texts.specs.Tests.{IsTestText};
+ghost use Rattle.ht_net.specs.Detection.{IsStart};
+ghost use Rattle.ht_faults.specs.Sites.{faults_of};
+ghost use Rattle.ht_faults.specs.Classes.{AreClasses};
 ghost use Rattle.ht_asked.specs.Asked.{Asked};
-ghost use Rattle.ht_inputs.specs.Grading.{DeniesTests, IsGraded, JudgesFiles};
-ghost use Rattle.ht_inputs.specs.Inputs.{JobBasis, WasRead};
+ghost use Rattle.ht_inputs.specs.Grading.{DeniesTests, IsGraded, JudgesFiles, TestsDetect, denied_tests};
+ghost use Rattle.ht_inputs.specs.Inputs.{JobBasis};
 ghost use Rattle.ht_inputs.specs.Reading.{EndsReading, ReadStops};
 
 use crate::listed::{Listed, list_faults};
@@ -15,7 +16,7 @@ use crate::netlist::read_netlist;
 use crate::run_error::RunError;
 use crate::start_file::read_stated;
 use crate::vectors_file::read_tests;
-use ht_net::{Circuit, Place, Vectors};
+use ht_net::{Circuit, Place};
 use ht_ports::Desk;
 use ht_proofs::first_detections_from;
 use ht_tern::Tern;
@@ -36,30 +37,45 @@ pub struct Graded {
     pub places: Vec<Option<Place>>,
 }
 
-// Reads the tests. A line that is no vector is the first trouble.
-fn read_judged_tests<D: Desk>(
+// A line of the tests that is no vector is the first trouble.
+fn denied(error: RunError) -> RunError
+    ensures { result ≡ denied_tests error }
+{
+    match error {
+        RunError::BadTests { line } => RunError::Denied {
+            trouble: Trouble::Tests { line },
+        },
+        error => error,
+    }
+}
+
+// Reads the tests and simulates them from a start: where they detect each representative first.
+fn read_places<D: Desk>(
     alloc: Global,
     desk: &mut D,
     name: &str,
     circuit: &Circuit,
-) -> Result<Vectors, RunError>
-    requires { IsCircuit circuit.now }
+    listed: &Listed,
+    start: &[Tern],
+) -> Result<Vec<Option<Place>>, RunError>
+    requires circuit { IsCircuit circuit.now }
+    requires faults { listed.now.faults ≡ faults_of circuit.now }
+    requires classes { AreClasses circuit.now listed.now.classes }
+    requires latches { IsStart circuit.now start.now }
     ensures frame { InCall in_port.Tests (D.view desk.old) (D.view desk.new) }
-    ensures read { IfOk result (λ list. WasRead in_port.Tests name.now
-        (λ text. IsTestText circuit.now text list.list) (D.view desk.old)) }
-    ensures width { IfOk result (λ list. list.width ≡ circuit.now.inputs) }
-    ensures few { IfOk result (λ list. length list.list ≤ max_text_bytes) }
+    ensures read { IfOk result (λ places. TestsDetect circuit.now listed.now.classes start.now
+        name.now (D.view desk.old) places.items) }
     ensures stops { (job : Asked) (basis : JobBasis) → DeniesTests job
         → basis.circuit ≡ circuit.now → IfErr result
         (ReadStops job basis in_port.Tests name.now (D.view desk.old) (D.view desk.new)) }
 {
-    match read_tests(alloc, desk, name, circuit, u64::MAX) {
-        Ok(list) => Ok(list),
-        Err(RunError::BadTests { line }) => Err(RunError::Denied {
-            trouble: Trouble::Tests { line },
-        }),
-        Err(error) => Err(error),
-    }
+    let list = match read_tests(alloc, desk, name, circuit, u64::MAX) {
+        Ok(list) => list,
+        Err(error) => return Err(denied(error)),
+    };
+    let Listed { faults, classes } = listed;
+    let places = first_detections_from(alloc, circuit, faults, classes, start, &list)?;
+    Ok(places)
 }
 
 /// Reads the netlist, the start if one is stated, and the tests, each to its end or to the first trouble, and simulates.
@@ -81,9 +97,7 @@ pub fn read_graded<D: Desk>(
     let circuit = read_netlist(alloc, desk, files.netlist.as_str())?;
     let listed = list_faults(alloc, &circuit)?;
     let start = read_stated(alloc, desk, &circuit, start)?;
-    let list = read_judged_tests(alloc, desk, files.tests.as_str(), &circuit)?;
-    let faults = &listed.faults;
-    let places = first_detections_from(alloc, &circuit, faults, &listed.classes, &start, &list)?;
+    let places = read_places(alloc, desk, files.tests.as_str(), &circuit, &listed, &start)?;
     Ok(Graded {
         circuit,
         listed,

@@ -13,6 +13,9 @@ use std::alloc::Global;
 
 /// Takes the lines of a file, one after the other.
 pub trait LineJudge {
+    // the most bytes of a line of the file
+    ghost most_bytes: { ℕ };
+
     // a further line may come
     ghost live: { Self → Type 0 };
 
@@ -42,13 +45,16 @@ pub trait LineJudge {
             → number ≡ length before + 1 → number ≤ max_text_bytes
             → IfErr result (λ e. (e ≡ NoMemory) ⊎ is_wrong basis before line.now e) };
 
+    /// The most bytes of a line of the file.
+    fn longest(&self) -> u32
+        ensures { result ≡ most_bytes };
+
     /// The error of a file whose line is too long.
     fn too_long(&self, line: u64) -> RunError
         ensures { result ≡ error_at line };
 }
 
-/// Opens a file and has its first `most` lines judged, up to the first that ends the run. A line has at most `longest`
-/// bytes.
+/// Opens a file and has its first `most` lines judged, up to the first that ends the run.
 ///
 /// # Errors
 /// - `ReadFault`: the desk counted a fault.
@@ -59,7 +65,6 @@ pub fn read_lines<D: Desk, J: LineJudge>(
     desk: &mut D,
     port: InPort,
     name: &str,
-    longest: u32,
     most: u64,
     judge: &mut J,
 ) -> Result<(), RunError>
@@ -69,13 +74,13 @@ pub fn read_lines<D: Desk, J: LineJudge>(
         → OnOk result (StandsForFile (J.stands judge.new basis) (J.is_wrong basis) most port
         name.now (D.view desk.old)) }
     ensures stops { (basis : JobBasis) → J.stands judge.old basis []
-        → IfErr result (LinesStop (J.is_wrong basis) J.error_at longest most port name.now
+        → IfErr result (LinesStop (J.is_wrong basis) J.error_at J.most_bytes most port name.now
         (D.view desk.old) (D.view desk.new)) }
 {
     if let Err(Failed) = desk.open(port, name) {
         return Err(RunError::ReadFault);
     }
-    let mut lines = Lines::new(alloc, port, longest)?;
+    let mut lines = Lines::new(alloc, port, judge.longest())?;
     let mut number = 0;
     'lines: while number < most {
         match lines.next(desk) {

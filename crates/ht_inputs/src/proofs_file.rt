@@ -16,6 +16,7 @@ ghost use Rattle.ht_inputs.specs.Reading.{ReadStops};
 
 use crate::graded::Graded;
 use crate::judged_file::{LineJudge, read_lines};
+use crate::listed::Listed;
 use crate::run_error::RunError;
 use ht_entries::MAX_PROOF_LINE_BYTES;
 use ht_judge::{Claims, ProofJudge};
@@ -24,9 +25,12 @@ use ht_valid::Trouble;
 use std::alloc::Global;
 
 impl<'c> LineJudge for ProofJudge<'c> {
+    ghost use Rattle.ht_entries.specs.declared.limits.TheConstants.{MAX_PROOF_LINE_BYTES};
     ghost use Rattle.ht_valid.specs.declared.trouble.Trouble.TheVariants as trouble;
     ghost use Rattle.ht_inputs.specs.declared.run_error.RunError.TheVariants.{Denied};
     ghost use Rattle.ht_inputs.specs.Judging.{IsWrongInProofs, StandsForProofs};
+
+    ghost most_bytes = { MAX_PROOF_LINE_BYTES };
 
     ghost live = { λ judge. IsTrue judge.live };
 
@@ -39,6 +43,10 @@ impl<'c> LineJudge for ProofJudge<'c> {
     fn take(&mut self, _number: u64, line: &[u8]) -> Result<(), RunError> {
         self.line(line)?;
         Ok(())
+    }
+
+    fn longest(&self) -> u32 {
+        MAX_PROOF_LINE_BYTES
     }
 
     fn too_long(&self, line: u64) -> RunError {
@@ -70,17 +78,11 @@ fn judge_proofs<D: Desk>(
         → IfErr result (ProofsStop basis name.now (D.view desk.old) (D.view desk.new)) }
 {
     let mut judge = judge;
-    read_lines(
-        alloc,
-        desk,
-        InPort::Proofs,
-        name,
-        MAX_PROOF_LINE_BYTES,
-        u64::MAX,
-        &mut judge,
-    )?;
-    let claims = judge.end()?;
-    Ok(claims)
+    let read = read_lines(alloc, desk, InPort::Proofs, name, u64::MAX, &mut judge);
+    // for the proof: the judge ends before the way out, which so doesn't drop it
+    let claims = judge.end();
+    read?;
+    Ok(claims?)
 }
 
 /// Opens the proofs and judges them by what the report claims, up to the first line that is malformed, or with which an
@@ -114,15 +116,10 @@ pub fn read_proofs<D: Desk>(
         (check_basis graded.now.circuit graded.now.listed.classes content) in_port.Proofs name.now
         (D.view desk.old) (D.view desk.new)) }
 {
-    let listed = &graded.listed;
-    let judge = ProofJudge::new(
-        alloc,
-        &graded.circuit,
-        &listed.faults,
-        &listed.classes,
-        &graded.start,
-        claims,
-    );
+    let circuit = &graded.circuit;
+    let start = &graded.start;
+    let Listed { faults, classes } = &graded.listed;
+    let judge = ProofJudge::new(alloc, circuit, faults, classes, start, claims);
     judge_proofs(alloc, desk, name, judge)?;
     Ok(())
 }
@@ -155,16 +152,10 @@ pub fn read_verdicts<D: Desk>(
         (report_basis graded.now.circuit graded.now.listed.classes content) in_port.Proofs name.now
         (D.view desk.old) (D.view desk.new)) }
 {
-    let listed = &graded.listed;
-    let judge = ProofJudge::of_tests(
-        alloc,
-        &graded.circuit,
-        &listed.faults,
-        &listed.classes,
-        &graded.start,
-        budget,
-        &graded.places,
-    )?;
-    let claims = judge_proofs(alloc, desk, name, judge)?;
-    Ok(claims)
+    let circuit = &graded.circuit;
+    let start = &graded.start;
+    let places = &graded.places;
+    let Listed { faults, classes } = &graded.listed;
+    let judge = ProofJudge::of_tests(alloc, circuit, faults, classes, start, budget, places)?;
+    judge_proofs(alloc, desk, name, judge)
 }

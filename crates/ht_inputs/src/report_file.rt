@@ -11,6 +11,7 @@ ghost use Rattle.ht_inputs.specs.Reading.{ReadStops};
 
 use crate::graded::Graded;
 use crate::judged_file::{LineJudge, read_lines};
+use crate::listed::Listed;
 use crate::run_error::RunError;
 use ht_judge::{Claims, ReportJudge};
 use ht_ports::{Desk, InPort};
@@ -20,9 +21,12 @@ use std::alloc::Global;
 
 impl<'c> LineJudge for ReportJudge<'c> {
     ghost use Rattle.std.specs.Prelude.{IsTrue};
+    ghost use Rattle.ht_texts.specs.declared.limits.TheConstants.{MAX_LINE_BYTES};
     ghost use Rattle.ht_valid.specs.declared.trouble.Trouble.TheVariants as trouble;
     ghost use Rattle.ht_inputs.specs.declared.run_error.RunError.TheVariants.{Denied};
     ghost use Rattle.ht_inputs.specs.Judging.{IsWrongInReport, StandsForReport};
+
+    ghost most_bytes = { MAX_LINE_BYTES };
 
     ghost live = { λ judge. IsTrue judge.live };
 
@@ -35,6 +39,10 @@ impl<'c> LineJudge for ReportJudge<'c> {
     fn take(&mut self, _number: u64, line: &[u8]) -> Result<(), RunError> {
         self.line(line)?;
         Ok(())
+    }
+
+    fn longest(&self) -> u32 {
+        MAX_LINE_BYTES
     }
 
     fn too_long(&self, line: u64) -> RunError {
@@ -74,23 +82,9 @@ pub fn read_report<D: Desk>(
         (check_basis graded.now.circuit graded.now.listed.classes content) in_port.Report name.now
         (D.view desk.old) (D.view desk.new)) }
 {
-    let listed = &graded.listed;
-    let mut judge = ReportJudge::new(
-        alloc,
-        &graded.circuit,
-        &listed.faults,
-        &listed.classes,
-        &graded.places,
-    )?;
-    read_lines(
-        alloc,
-        desk,
-        InPort::Report,
-        name,
-        MAX_LINE_BYTES,
-        u64::MAX,
-        &mut judge,
-    )?;
+    let Listed { faults, classes } = &graded.listed;
+    let mut judge = ReportJudge::new(alloc, &graded.circuit, faults, classes, &graded.places)?;
+    read_lines(alloc, desk, InPort::Report, name, u64::MAX, &mut judge)?;
     let claims = judge.end()?;
     Ok(claims)
 }

@@ -17,33 +17,24 @@ use ht_ports::{Desk, InPort};
 use ht_serial::Observation;
 use std::alloc::{AllocError, Global};
 
-/// The most bytes of a row's line, since a circuit has at most 65,535 outputs. A longer line is wrong.
-const MAX_ROW_BYTES: u32 = 65_535;
-
-// Adds the row whose text the line is, where there is a vector for it; false where there is none, or no row has it.
+// Adds the row whose text the line is; false where no row has it.
 fn push_row(
     alloc: Global,
     observation: &mut Observation,
     width: u32,
-    vectors: u64,
     line: &[u8],
 ) -> Result<bool, AllocError>
     requires { observation.old.width ≡ width }
     ensures width { observation.new.width ≡ observation.old.width }
     ensures added { IfOk result (λ is_row. MatchBool is_row
         ((row : List Tern) × IsRowText width line.now row
-        × (length observation.old.rows < vectors)
         × (observation.new.rows ≡ observation.old.rows ++ row ∷ []))
         ((observation.new ≡ observation.old)
-        × ((row : List Tern) → IsRowText width line.now row
-        → vectors ≤ length observation.old.rows))) }
+        × ((row : List Tern) → ¬ IsRowText width line.now row))) }
 {
     let Some(row) = read_row(alloc, line, width)? else {
         return Ok(false);
     };
-    if observation.len() >= vectors {
-        return Ok(false);
-    }
     observation.push(row)?;
     Ok(true)
 }
@@ -77,6 +68,8 @@ impl LineJudge for ResponsesReader {
     ghost use Rattle.ht_inputs.specs.declared.run_error.RunError.TheVariants.{BadResponses};
     ghost use Rattle.ht_inputs.specs.Judging.{StandsForResponses};
 
+    ghost most_bytes = { max_nets };
+
     ghost live = { λ reader. reader.observation.width ≡ reader.width };
 
     ghost stands = { λ reader basis lines. (reader.width ≡ length basis.circuit.outputs)
@@ -91,16 +84,17 @@ impl LineJudge for ResponsesReader {
     ghost error_at = { BadResponses };
 
     fn take(&mut self, number: u64, line: &[u8]) -> Result<(), RunError> {
-        if !push_row(
-            self.alloc,
-            &mut self.observation,
-            self.width,
-            self.vectors,
-            line,
-        )? {
+        if number > self.vectors
+            || !push_row(self.alloc, &mut self.observation, self.width, line)?
+        {
             return Err(RunError::BadResponses { line: number });
         }
         Ok(())
+    }
+
+    fn longest(&self) -> u32 {
+        // a circuit has at most so many outputs
+        65_535
     }
 
     fn too_long(&self, line: u64) -> RunError {
@@ -138,14 +132,6 @@ pub fn read_responses<D: Desk>(
         width,
         vectors,
     };
-    read_lines(
-        alloc,
-        desk,
-        InPort::Extra,
-        name,
-        MAX_ROW_BYTES,
-        u64::MAX,
-        &mut reader,
-    )?;
+    read_lines(alloc, desk, InPort::Extra, name, u64::MAX, &mut reader)?;
     whole(reader.observation, vectors)
 }

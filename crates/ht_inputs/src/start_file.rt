@@ -21,9 +21,6 @@ use ht_texts::read_start;
 use ht_words::FileName;
 use std::alloc::{AllocError, Global};
 
-/// The most bytes of the line, since a circuit has at most 16,384 flip-flops. A longer line is wrong.
-const MAX_START_BYTES: u32 = 16_384;
-
 // The start whose line this is; `None` where it is that of none, or isn't the first.
 fn read_first(
     alloc: Global,
@@ -61,8 +58,11 @@ struct StartReader {
 }
 
 impl LineJudge for StartReader {
+    ghost use Rattle.ht_net.specs.Netlist.{max_dffs};
     ghost use Rattle.ht_inputs.specs.declared.run_error.RunError.TheVariants.{BadStart};
     ghost use Rattle.ht_inputs.specs.Judging.{StandsForStart};
+
+    ghost most_bytes = { max_dffs };
 
     ghost live = { λ reader. Unit {0} };
 
@@ -82,6 +82,11 @@ impl LineJudge for StartReader {
         };
         self.start = Some(start);
         Ok(())
+    }
+
+    fn longest(&self) -> u32 {
+        // a circuit has at most so many flip-flops
+        16_384
     }
 
     fn too_long(&self, line: u64) -> RunError {
@@ -111,15 +116,7 @@ fn read_start_file<D: Desk>(
         start: read_start(alloc, &[], width)?,
         width,
     };
-    read_lines(
-        alloc,
-        desk,
-        InPort::Extra,
-        name,
-        MAX_START_BYTES,
-        u64::MAX,
-        &mut reader,
-    )?;
+    read_lines(alloc, desk, InPort::Extra, name, u64::MAX, &mut reader)?;
     whole(reader.start)
 }
 

@@ -22,9 +22,6 @@ use ht_texts::read_vector;
 use ht_words::FileName;
 use std::alloc::{AllocError, Global};
 
-/// The most bytes of a vector's line, since a circuit has at most 4,096 inputs. A longer line is malformed.
-const MAX_LINE_BYTES: u32 = 4_096;
-
 // Adds the vector whose text the line is; false where no vector has it.
 fn push_line(alloc: Global, list: &mut Vectors, width: u32, line: &[u8]) -> Result<bool, AllocError>
     requires { list.old.width ≡ width }
@@ -51,8 +48,11 @@ struct TestsReader {
 }
 
 impl LineJudge for TestsReader {
+    ghost use Rattle.ht_net.specs.Netlist.{max_inputs};
     ghost use Rattle.ht_inputs.specs.declared.run_error.RunError.TheVariants.{BadTests};
     ghost use Rattle.ht_inputs.specs.Judging.{StandsForTests};
+
+    ghost most_bytes = { max_inputs };
 
     ghost live = { λ reader. reader.list.width ≡ reader.width };
 
@@ -69,6 +69,11 @@ impl LineJudge for TestsReader {
             return Err(RunError::BadTests { line: number });
         }
         Ok(())
+    }
+
+    fn longest(&self) -> u32 {
+        // a circuit has at most so many inputs
+        4_096
     }
 
     fn too_long(&self, line: u64) -> RunError {
@@ -104,15 +109,7 @@ pub fn read_tests<D: Desk>(
         list: Vectors::new(alloc, circuit.inputs()),
         width: circuit.inputs(),
     };
-    read_lines(
-        alloc,
-        desk,
-        InPort::Tests,
-        name,
-        MAX_LINE_BYTES,
-        most,
-        &mut reader,
-    )?;
+    read_lines(alloc, desk, InPort::Tests, name, most, &mut reader)?;
     Ok(reader.list)
 }
 

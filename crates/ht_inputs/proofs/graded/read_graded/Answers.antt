@@ -9,10 +9,10 @@ use Rattle.ht_inputs.specs.declared.run_error.RunError.TheVariants.{NoMemory}
 use Rattle.ht_inputs.specs.Grading.{JudgesFiles}
 use Rattle.ht_inputs.specs.Jobs.{place_of, start_name}
 use Rattle.ht_inputs.specs.Judging.{judged_basis}
-use Rattle.ht_inputs.proofs.ReadingLaws.{no_room, nothing_read, one_more, read_so, stops_there}
+use Rattle.ht_inputs.proofs.ReadingLaws.{nothing_read, one_more, read_so, stops_there}
 use Rattle.ht_inputs.proofs.graded.read_graded.Given as given
 use Rattle.ht_inputs.proofs.graded.read_graded.Goals as goal
-use Rattle.ht_inputs.proofs.graded.read_graded.Goals.{In_ok-list, In_ok-listed, In_ok-start}
+use Rattle.ht_inputs.proofs.graded.read_graded.Goals.{In_ok-listed, In_ok-places, In_ok-start}
 
 -- the start is that of the file which the job reads
 starts : (job : Asked) (files : RunFiles) (start : Option (List ℕ)) → JudgesFiles job files start
@@ -46,18 +46,19 @@ module _ (g : given.Over) (job : Asked) where
       (circuit_read (goal.at.In_ok-start g c).In_ok-listed is follows content
       (λ none. start ∙ c.in_ok-start.ensures.unstated none)) start
 
-  vectors_read : (c : In_ok-list g) → JudgesFiles job c.args.files.now c.args.start.now → (follows : Bool)
-      (content : Content) → content.start ≡ c.in_ok-start.start.items → content.list ≡ c.in_ok-list.list.list
+  vectors_read : (c : In_ok-places g) → JudgesFiles job c.args.files.now c.args.start.now → (follows : Bool)
+      (content : Content) → content.start ≡ c.in_ok-start.start.items
+      → content.list ≡ c.in_ok-places.ensures.read.list
       → HasReadTo job (judged_basis follows c.in_ok-circuit.circuit c.in_ok-listed.listed.classes content) 3
-      (g.D.Desk.view c.args.desk.now) (g.D.Desk.view c.read_judged_tests.new.desk)
+      (g.D.Desk.view c.args.desk.now) (g.D.Desk.view c.read_places.new.desk)
   vectors_read c is follows content start list =
       let basis = judged_basis follows c.in_ok-circuit.circuit c.in_ok-listed.listed.classes content in
-      one_more (start_read (goal.at.In_ok-list g c).In_ok-start is follows content start)
-      (ap (place_of Tests) is.may_start) (is.tests ∙ ap Some (sym c.as_str-2.ensures)) c.in_ok-list.ensures.frame
+      one_more (start_read (goal.at.In_ok-places g c).In_ok-start is follows content start)
+      (ap (place_of Tests) is.may_start) (is.tests ∙ ap Some (sym c.as_str-2.ensures)) c.in_ok-places.ensures.frame
       c.in_ok-circuit.ensures.netlist
       (read_so (SaysBasis job basis Tests) (λ text good. is.vectors basis text
       (subst (λ (l : List (List Bool)). IsTestText c.in_ok-circuit.circuit text l) (sym list) good))
-      c.in_ok-list.ensures.read)
+      c.in_ok-places.ensures.read.read)
 
 -- ---- why it stops
 
@@ -85,20 +86,14 @@ returns-in_err-start-clause-stopped g c = λ job is.
     (g.D.Desk.view c.args.desk.now) is.may_start is.started refl before in
     search (rules, ends)
 
-pub returns-in_err-list-clause-stopped : goal.returns-in_err-list-clause-stopped
-returns-in_err-list-clause-stopped g c = λ job is.
-    let content = said c.in_ok-start.start.items [] in
-    let before = start_read g job (goal.at.returns-in_err-list-clause-stopped g c).In_ok-start is false content refl in
-    let ends = stops_there before (ap (place_of Tests) is.may_start) (is.tests ∙ ap Some (sym c.as_str-2.ensures))
-    c.in_err-list.ensures.frame (λ same. is.fault c.in_ok-circuit.circuit) c.in_err-list.field-0.0
-    (c.in_err-list.ensures.stops job
-    (judged_basis false c.in_ok-circuit.circuit c.in_ok-listed.listed.classes content) is.denies refl) in
-    search (rules, ends)
-
 pub returns-in_err-places-clause-stopped : goal.returns-in_err-places-clause-stopped
 returns-in_err-places-clause-stopped g c = λ job is.
-    let ends = no_room (vectors_read g job (goal.at.returns-in_err-places-clause-stopped g c).In_ok-list is false
-    (said c.in_ok-start.start.items c.in_ok-list.list.list) refl refl) in
+    let content = said c.in_ok-start.start.items [] in
+    let before = start_read g job (goal.at.returns-in_err-places-clause-stopped g c).In_ok-start is false content refl in
+    let ends = stops_there before (ap (place_of Tests) is.may_start) (is.tests ∙ ap Some (sym c.as_str-2.ensures))
+    c.in_err-places.ensures.frame (λ same. is.fault c.in_ok-circuit.circuit) c.in_err-places.field-0.0
+    (c.in_err-places.ensures.stops job
+    (judged_basis false c.in_ok-circuit.circuit c.in_ok-listed.listed.classes content) is.denies refl) in
     search (rules, ends)
 
 -- ---- what was read
@@ -107,11 +102,12 @@ pub returns-clause-graded : goal.returns-clause-graded
 returns-clause-graded g c =
     let at = goal.at.returns-clause-graded g c in
     let netlist = c.in_ok-circuit.ensures.netlist in
+    let tests = c.in_ok-places.ensures.read in
     let first = subst (λ (s : List Tern).
-    AreFirstDetections c.in_ok-circuit.circuit c.in_ok-listed.listed.classes s c.in_ok-list.list.list
-    c.in_ok-places.places.items) c.deref.ensures.value c.in_ok-places.ensures.first in
+    AreFirstDetections c.in_ok-circuit.circuit c.in_ok-listed.listed.classes s tests.list
+    c.in_ok-places.places.items) c.deref.ensures.value tests.first in
     record {
-      list = c.in_ok-list.list.list;
+      list = tests.list;
       netlist = netlist;
       of_circuit = record {
         circuit = netlist.1.stands.is_circuit;
@@ -120,7 +116,7 @@ returns-clause-graded g c =
         latches = c.in_ok-start.ensures.latches;
         each = first.each;
       };
-      few = c.in_ok-list.ensures.few;
+      few = tests.few;
       first = first;
-      reads = λ job follows content is start list. vectors_read g job at.In_ok-list is follows content start list;
+      reads = λ job follows content is start list. vectors_read g job at.In_ok-places is follows content start list;
     }

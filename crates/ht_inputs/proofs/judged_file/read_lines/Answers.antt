@@ -16,7 +16,7 @@ lines-init g c =
     λ text is. ap (λ l. rest_of l desk) made ∙ ap (prepend_known []) is in
     record {
       port = ap (λ l. l.port) made;
-      max_len = ap (λ l. l.max_len) made;
+      max_len = ap (λ l. l.max_len) made ∙ c.longest.ensures;
       live = search rules;
       judges = c.requires;
       open_now = c.in_default.ensures.opened.is_open;
@@ -73,7 +73,7 @@ returns-in_err-take-in-Ok-Some-clause-stops g c = λ basis stands.
     let number : c.lines.number + 1 ≡ length t.lines + 1 = omega (arith, t.counted, before.counts) in
     let within : c.lines.number + 1 ≤ max_text_bytes =
     omega (arith, before.counts, before.below, gives.some, gives.bytes_read, gives.fits) in
-    let stops = stops_judged t gives g.J.LineJudge.error_at c.args.longest {most = c.args.most}
+    let stops = stops_judged t gives g.J.LineJudge.error_at g.J.LineJudge.most_bytes {most = c.args.most}
     {e = c.in_err-take-in-Ok-Some.field-0.0} before.there
     (omega (arith, t.counted, before.counts, c.lines-test.true))
     (c.in_err-take-in-Ok-Some.ensures.wrong basis t.lines t.stands number within) in
@@ -92,12 +92,12 @@ returns-in-Err-TooLong-clause-stops g c = λ basis stands.
     let before = c.lines.invariant in
     let cause = rw c.in-Err-TooLong.field-0-is at c.in-Err-TooLong.ensures.cause in
     let long : (rest : List ℕ) → rest_of c.lines.lines (g.D.Desk.view c.lines.desk) ≡ Some rest
-    → IsTooLongLine c.args.longest c.lines.lines.bytes_read rest = λ rest is.
+    → IsTooLongLine g.J.LineJudge.most_bytes c.lines.lines.bytes_read rest = λ rest is.
     subst (λ (m : ℕ). IsTooLongLine m c.lines.lines.bytes_read rest) before.max_len (cause.1 rest is) in
     inr (inr (inr (
       c.in-Err-TooLong.line,
       c.too_long.ensures,
-      stops_at_long c.args.longest c.in-Err-TooLong.line (before.so_far basis stands) before.there cause.0
+      stops_at_long g.J.LineJudge.most_bytes c.in-Err-TooLong.line (before.so_far basis stands) before.there cause.0
           (omega (arith, before.counts, c.lines-test.true)) before.fits long,
     )))
 

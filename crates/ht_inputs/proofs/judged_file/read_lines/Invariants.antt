@@ -6,7 +6,7 @@ use Rattle.ht_inputs.proofs.judged_file.read_lines.Given as goal
 abbrev pub invariant-lines : goal.invariant-lines
 invariant-lines g l = record {
   port : l.lines.port ≡ l.fn.port;
-  max_len : l.lines.max_len ≡ l.longest;
+  max_len : l.lines.max_len ≡ g.J.LineJudge.most_bytes;
   live : IsTrue l.lines.live;
   judges : g.J.LineJudge.live l.judge;
   open_now : IsTrue ((g.D.Desk.view l.desk).is_open l.fn.port);

@@ -1,5 +1,8 @@
-use Rattle.std.proofs.Common.{◌≡◌, ℕ, List, [], ◌∙◌, Option, refl, sym, subst, rules}
-use Rattle.ht_inputs.proofs.Common.{AreFirstDetections, Content, Tern, before_proofs}
+use Rattle.std.proofs.Common.{◌≡◌, ℕ, List, [], ◌∙◌, Option, refl, sym, subst}
+use Rattle.std.specs.Prelude.{IfOk}
+use Rattle.std.proofs.lemmas.Result.{IfErr-weaker}
+use Rattle.ht_inputs.proofs.Common.{AreFirstDetections, Content, ReadStops, Tern, before_proofs}
+use Rattle.ht_ports.specs.declared.ports.InPort.TheVariants.{Proofs}
 use Rattle.ht_asked.specs.Asked as asked
 use Rattle.ht_net.specs.declared.place.Place.{Place}
 use Rattle.ht_valid.specs.FirstTrouble.{EndsWrongEntry, IsEvidence, IsFirstFault, IsFirstProofLine}
@@ -25,27 +28,30 @@ begins g c content start budget first =
     (subst (λ (s : List Tern). AreFirstDetections graded.circuit graded.listed.classes s content.list
     graded.places.items) same first))
 
-pub returns-in_err-claims-clause-stops : goal.returns-in_err-claims-clause-stops
-returns-in_err-claims-clause-stops g c = λ netlist tests proofs out start_file content start budget first.
-    let at = (goal.at.returns-in_err-claims-clause-stops g c).In_ok-judge in
+pub returns-clause-stops : goal.returns-clause-stops
+returns-clause-stops g c = λ netlist tests proofs out start_file content start budget first.
+    let at = (goal.at.returns-clause-stops g c).In_ok-judge in
     let graded = c.args.graded.now in
     let basis = report_basis graded.circuit graded.listed.classes content in
-    let stops = job_stops c.args.name.now basis (g.D.Desk.view c.args.desk.now) (g.D.Desk.view c.judge_proofs.new.desk)
-    (asked.report netlist tests proofs out c.args.budget start_file) (λ line. refl) (λ number. refl)
+    let old = g.D.Desk.view c.args.desk.now in
+    let new = g.D.Desk.view c.judge_proofs.new.desk in
+    let job = asked.report netlist tests proofs out c.args.budget start_file in
+    IfErr-weaker c.judge_proofs.result _ (ReadStops job basis Proofs c.args.name.now old new)
+    (job_stops c.args.name.now basis old new job (λ line. refl) (λ number. refl)
     (λ text line. subst (λ (b : ℕ). IsFirstProofLine (EndsWrongEntry (IsEvidence graded.circuit graded.listed.classes
     content.start content.list b)) text line) budget)
     (λ text number. subst (λ (b : ℕ). IsFirstFault (EndsWrongEntry (IsEvidence graded.circuit graded.listed.classes
-    content.start content.list b)) text number) budget) c.in_err-claims.field-0.0
-    (c.in_err-claims.ensures.stops basis (record {
+    content.start content.list b)) text number) budget))
+    (c.judge_proofs.ensures.stops basis (record {
       circuit = c.in_ok-judge.ensures.circuit;
       representatives = c.in_ok-judge.ensures.classes;
       judges = begins g at content start budget first;
-    })) in
-    search (rules, stops)
+    }))
 
 pub returns-clause-read : goal.returns-clause-read
 returns-clause-read g c = λ content start budget first.
     let at = (goal.at.returns-clause-read g c).In_ok-judge in
-    same_circuit (λ circuit r. VerdictsAreRead circuit r content c.args.name.now (g.D.Desk.view c.args.desk.now)
-    c.in_ok-claims.claims) c.in_ok-judge.ensures.circuit c.in_ok-judge.ensures.classes
-    (c.in_ok-claims.ensures.followed content (begins g at content start budget first))
+    same_circuit (λ circuit r. IfOk c.judge_proofs.result
+    (VerdictsAreRead circuit r content c.args.name.now (g.D.Desk.view c.args.desk.now)))
+    c.in_ok-judge.ensures.circuit c.in_ok-judge.ensures.classes
+    (c.judge_proofs.ensures.followed content (begins g at content start budget first))
