@@ -61,6 +61,10 @@ ending port total = []
 abbrev pub file_acts : OutPort → List ℕ → List ℕ → List ℕ → List Act
 file_acts port name body total = make port name ∷ put port body ∷ put Out total ∷ ending port total
 
+-- What is said stands on Out before the last line of a report.
+abbrev pub report_acts : List ℕ → List ℕ → List ℕ → List Act
+report_acts body said last = put Report body ∷ put Out said ∷ put Report last ∷ []
+
 -- A file of this name is written, with its total line, and they are so.
 pub record WritesFile (port : OutPort) (name : List ℕ) (AreSo : List ℕ → List ℕ → Type 0) (acts : List Act)
     : Type 0 where
@@ -68,6 +72,14 @@ pub record WritesFile (port : OutPort) (name : List ℕ) (AreSo : List ℕ → L
   pub total : List ℕ
   pub so : AreSo body total
   pub acts_are : acts ≡ file_acts port name body total
+
+-- the commands that read no proofs, and write one file so
+abbrev pub MakesOneFile : Asked → Type 0
+MakesOneFile (sim netlist tests report start) = Unit {0}
+MakesOneFile (compact netlist tests out) = Unit {0}
+MakesOneFile (diagnose netlist tests responses out) = Unit {0}
+MakesOneFile (uninit netlist out budget) = Unit {0}
+MakesOneFile job = ⊥
 
 -- ---- `check`
 
@@ -238,10 +250,10 @@ pub record IsSyncRecord (c : net.Netlist) (budget : ℕ) (tests record_text said
   pub said_is : said ≡ with_lf (sync_said answer)
   pub last_is : last ≡ with_lf (last_sync_line answer)
 
--- The tests are made before the record. What is said stands on Out before the record's last line.
+-- The tests are made before the record.
 abbrev pub sync_acts : List ℕ → List ℕ → List ℕ → List ℕ → List ℕ → List ℕ → List Act
-sync_acts tests out list body said last = make Tests tests ∷ make Report out
-    ∷ put Tests list ∷ put Report body ∷ put Out said ∷ put Report last ∷ []
+sync_acts tests out list body said last =
+    make Tests tests ∷ make Report out ∷ put Tests list ∷ report_acts body said last
 
 -- Both files are written, as such a search leaves them.
 pub record WritesSync (tests out : List ℕ) (c : net.Netlist) (budget : ℕ) (acts : List Act) : Type 0 where
@@ -259,9 +271,9 @@ abbrev pub IsMachineOf : net.Netlist → Option ℕ → Option Fault → Type 0
 IsMachineOf c None fault = fault ≡ None
 IsMachineOf c (Some number) fault = IsListed c (Some number) × (fault ≡ Some (fault_at c (number - 1)))
 
--- What is said stands on Out before the last line of the responses.
+-- The file is made and written.
 abbrev pub response_acts : List ℕ → List ℕ → List ℕ → List ℕ → List Act
-response_acts out body said last = make Report out ∷ put Report body ∷ put Out said ∷ put Report last ∷ []
+response_acts out body said last = make Report out ∷ report_acts body said last
 
 -- The file has exactly what that machine shows over the vectors, from the start.
 pub record WritesResponses (out : List ℕ) (c : net.Netlist) (number : Option ℕ) (start : List Tern)

@@ -1,5 +1,5 @@
 //! The command `report`.
-ghost use Rattle.std.specs.Prelude.{◌≡◌, ◌≤◌, ◌++◌, length, IfOk, IfErr};
+ghost use Rattle.std.specs.Prelude.{◌≡◌, ◌≤◌, ◌++◌, length, IfOk};
 ghost use Rattle.ht_ports.specs.declared.ports.OutPort.TheVariants as out_port;
 ghost use Rattle.ht_faults.specs.Sites.{faults_of};
 ghost use Rattle.ht_texts.specs.SearchReports.{HasPlainNames, IsSearchOf};
@@ -8,10 +8,9 @@ ghost use Rattle.ht_words.specs.Jobs.{asked_by};
 ghost use Rattle.ht_words.specs.declared.job.Job.TheVariants as job_of;
 ghost use Rattle.ht_inputs.specs.Grading.{IsOfCircuit};
 ghost use Rattle.ht_app.specs.Outputs.{IsReportOfVerdicts, file_acts};
-ghost use Rattle.ht_inputs.specs.Reading.{EndsReading};
-ghost use Rattle.ht_app.specs.Steps.{IsPrepared};
+ghost use Rattle.ht_app.specs.Steps.{Prepares};
 
-use crate::made::Made;
+use crate::made::{Made, or_no_memory};
 use ht_files::TextSize;
 use ht_inputs::{Graded, RunError, read_graded, read_verdicts};
 use ht_judge::Claims;
@@ -62,16 +61,11 @@ pub fn report<D: Desk>(
     desk: &mut D,
 ) -> Result<Made, RunError>
     requires { (MIN_BUDGET ≤ budget) × (budget ≤ MAX_BUDGET) }
-    ensures made { IfOk result (λ made. IsPrepared
-        (asked_by (job_of.Report files.now budget start.now))
-        (file_acts out_port.Report files.now.report made.body.items made.total.items)
-        (D.view desk.old) (D.view desk.new)) }
-    ensures stopped { IfErr result (EndsReading
-        (asked_by (job_of.Report files.now budget start.now)) (D.view desk.old)
-        (D.view desk.new)) }
+    ensures { Prepares (asked_by (job_of.Report files.now budget start.now))
+        (λ made. file_acts out_port.Report files.now.report made.body.items made.total.items)
+        result (D.view desk.old) (D.view desk.new) }
 {
     let graded = read_graded(alloc, files, start, desk)?;
     let claims = read_verdicts(alloc, desk, files.proofs.as_str(), &graded, budget)?;
-    let made = report_texts(alloc, &graded, &claims)?;
-    Ok(made)
+    or_no_memory(report_texts(alloc, &graded, &claims))
 }

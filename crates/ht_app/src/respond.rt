@@ -5,15 +5,15 @@ ghost use Rattle.ht_dictionary.specs.Responses.{IsResponses};
 ghost use Rattle.ht_asked.specs.Asked as asked;
 ghost use Rattle.ht_app.specs.Outputs.{IsMachineOf, response_acts};
 ghost use Rattle.ht_inputs.specs.Refusals.{FaultStops};
-ghost use Rattle.ht_inputs.specs.Reading.{EndsReading};
-ghost use Rattle.ht_app.specs.Steps.{Does, EndsJob, IsPrepared};
+ghost use Rattle.ht_app.specs.Steps.{EndsJob, Prepares};
 
-use crate::output::{create, put};
+use crate::made::or_no_memory;
+use crate::output::write_report;
 use ht_asked::{MAX_FAULT, MIN_FAULT};
 use ht_dictionary::{write_last_response, write_response_body, write_response_total};
 use ht_inputs::{RunError, read_netlist, read_stated, read_tests};
 use ht_net::{Circuit, Fault, Vectors};
-use ht_ports::{Desk, OutPort};
+use ht_ports::Desk;
 use ht_tern::Tern;
 use ht_words::FileName;
 use std::alloc::{AllocError, Global};
@@ -81,32 +81,16 @@ fn make_texts<D: Desk>(
     desk: &mut D,
 ) -> Result<ResponseTexts, RunError>
     requires { IfSome number (λ n. (MIN_FAULT ≤ n) × (n ≤ MAX_FAULT)) }
-    ensures made { (out : List ℕ) → IfOk result (λ texts. IsPrepared
+    ensures { (out : List ℕ) → Prepares
         (asked.respond netlist.now tests.now out number start.now)
-        (response_acts out texts.body.items texts.said.items texts.last.items)
-        (D.view desk.old) (D.view desk.new)) }
-    ensures stopped { (out : List ℕ) → IfErr result (EndsReading
-        (asked.respond netlist.now tests.now out number start.now) (D.view desk.old)
-        (D.view desk.new)) }
+        (λ texts. response_acts out texts.body.items texts.said.items texts.last.items) result
+        (D.view desk.old) (D.view desk.new) }
 {
     let circuit = read_netlist(alloc, desk, netlist)?;
     let start = read_stated(alloc, desk, &circuit, start)?;
     let fault = named_fault(alloc, &circuit, number)?;
     let list = read_tests(alloc, desk, tests, &circuit, u64::MAX)?;
-    let texts = response_texts(alloc, &circuit, fault, &start, &list)?;
-    Ok(texts)
-}
-
-// Makes the file, and writes it. The line on Out comes before the last line.
-fn write_texts<D: Desk>(desk: &mut D, out: &str, texts: &ResponseTexts) -> Result<(), RunError>
-    ensures { Does (response_acts out.now texts.now.body.items texts.now.said.items
-        texts.now.last.items) result (D.view desk.old) (D.view desk.new) }
-{
-    create(desk, OutPort::Report, out)?;
-    put(desk, OutPort::Report, &texts.body)?;
-    put(desk, OutPort::Out, &texts.said)?;
-    put(desk, OutPort::Report, &texts.last)?;
-    Ok(())
+    or_no_memory(response_texts(alloc, &circuit, fault, &start, &list))
 }
 
 /// Runs `respond`: reads the netlist, the start if one is stated, and the tests, and writes what the machine shows over
@@ -116,9 +100,9 @@ fn write_texts<D: Desk>(desk: &mut D, out: &str, texts: &ResponseTexts) -> Resul
 /// Those of the run.
 pub fn respond<D: Desk>(
     alloc: Global,
-    netlist: &str,
-    tests: &str,
-    out: &str,
+    netlist: &FileName,
+    tests: &FileName,
+    out: &FileName,
     number: Option<u32>,
     start: &Option<FileName>,
     desk: &mut D,
@@ -127,7 +111,6 @@ pub fn respond<D: Desk>(
     ensures { EndsJob (asked.respond netlist.now tests.now out.now number start.now) result
         (D.view desk.old) (D.view desk.new) }
 {
-    let texts = make_texts(alloc, netlist, tests, number, start, desk)?;
-    write_texts(desk, out, &texts)?;
-    Ok(())
+    let texts = make_texts(alloc, netlist.as_str(), tests.as_str(), number, start, desk)?;
+    write_report(desk, out.as_str(), &texts.body, &texts.said, &texts.last)
 }

@@ -1,14 +1,13 @@
 //! The command `sim`.
-ghost use Rattle.std.specs.Prelude.{◌≡◌, ◌≤◌, ◌++◌, List, ℕ, length, IfOk, IfErr};
+ghost use Rattle.std.specs.Prelude.{◌≡◌, ◌≤◌, ◌++◌, List, ℕ, length, IfOk};
 ghost use Rattle.ht_ports.specs.LineRule.{max_text_bytes};
 ghost use Rattle.ht_ports.specs.declared.ports.OutPort.TheVariants as out_port;
 ghost use Rattle.ht_net.specs.Detection.{IsStart};
 ghost use Rattle.ht_asked.specs.Asked as asked;
 ghost use Rattle.ht_app.specs.Outputs.{IsReportOf, file_acts};
-ghost use Rattle.ht_inputs.specs.Reading.{EndsReading};
-ghost use Rattle.ht_app.specs.Steps.{IsPrepared};
+ghost use Rattle.ht_app.specs.Steps.{Prepares};
 
-use crate::made::Made;
+use crate::made::{Made, or_no_memory};
 use ht_faults::collapse;
 use ht_inputs::{RunError, read_netlist, read_stated, read_tests};
 use ht_net::{Circuit, Vectors};
@@ -48,21 +47,17 @@ fn report_texts(
 /// Those of the files, or out of memory.
 pub fn simulate<D: Desk>(
     alloc: Global,
-    netlist: &str,
-    tests: &str,
+    netlist: &FileName,
+    tests: &FileName,
     start: &Option<FileName>,
     desk: &mut D,
 ) -> Result<Made, RunError>
-    ensures made { (report : List ℕ) → IfOk result (λ made. IsPrepared
-        (asked.sim netlist.now tests.now report start.now)
-        (file_acts out_port.Report report made.body.items made.total.items) (D.view desk.old)
-        (D.view desk.new)) }
-    ensures stopped { (report : List ℕ) → IfErr result (EndsReading
-        (asked.sim netlist.now tests.now report start.now) (D.view desk.old) (D.view desk.new)) }
+    ensures { (report : List ℕ) → Prepares (asked.sim netlist.now tests.now report start.now)
+        (λ made. file_acts out_port.Report report made.body.items made.total.items) result
+        (D.view desk.old) (D.view desk.new) }
 {
-    let circuit = read_netlist(alloc, desk, netlist)?;
+    let circuit = read_netlist(alloc, desk, netlist.as_str())?;
     let start = read_stated(alloc, desk, &circuit, start)?;
-    let list = read_tests(alloc, desk, tests, &circuit, u64::MAX)?;
-    let made = report_texts(alloc, &circuit, &start, &list)?;
-    Ok(made)
+    let list = read_tests(alloc, desk, tests.as_str(), &circuit, u64::MAX)?;
+    or_no_memory(report_texts(alloc, &circuit, &start, &list))
 }

@@ -1,19 +1,20 @@
 //! The command `sync`.
-ghost use Rattle.std.specs.Prelude.{◌≡◌, ◌≤◌, ◌++◌, List, ℕ, IfOk, IfErr};
+ghost use Rattle.std.specs.Prelude.{◌≡◌, ◌≤◌, ◌++◌, List, ℕ, IfOk};
 ghost use Rattle.ht_texts.specs.Tests.{test_text};
 ghost use Rattle.ht_sync.specs.SyncTexts.{sync_list};
 ghost use Rattle.ht_asked.specs.Asked as asked;
 ghost use Rattle.ht_app.specs.Outputs.{IsSyncRecord, sync_acts};
-ghost use Rattle.ht_inputs.specs.Reading.{EndsReading};
-ghost use Rattle.ht_app.specs.Steps.{Does, EndsJob, IsPrepared};
+ghost use Rattle.ht_app.specs.Steps.{Does, EndsJob, Prepares};
 
-use crate::output::{create, put};
+use crate::made::or_no_memory;
+use crate::output::{create, put, put_report};
 use ht_files::write_test_text;
 use ht_inputs::{RunError, read_netlist};
 use ht_net::Circuit;
 use ht_ports::{Desk, OutPort};
 use ht_sync::{Synchronized, sync, write_sync_body, write_sync_last, write_sync_said};
 use ht_tree::MAX_BUDGET;
+use ht_words::FileName;
 use std::alloc::{AllocError, Global};
 
 /// What `sync` writes.
@@ -70,20 +71,15 @@ fn make_texts<D: Desk>(
     desk: &mut D,
 ) -> Result<SyncTexts, RunError>
     requires { budget ≤ MAX_BUDGET }
-    ensures made { (tests out : List ℕ) → IfOk result (λ texts. IsPrepared
-        (asked.sync netlist.now tests out budget)
-        (sync_acts tests out texts.tests.items texts.body.items texts.said.items
-        texts.last.items) (D.view desk.old) (D.view desk.new)) }
-    ensures stopped { (tests out : List ℕ) → IfErr result (EndsReading
-        (asked.sync netlist.now tests out budget) (D.view desk.old) (D.view desk.new)) }
+    ensures { (tests out : List ℕ) → Prepares (asked.sync netlist.now tests out budget)
+        (λ texts. sync_acts tests out texts.tests.items texts.body.items texts.said.items
+        texts.last.items) result (D.view desk.old) (D.view desk.new) }
 {
     let circuit = read_netlist(alloc, desk, netlist)?;
-    let texts = sync_texts(alloc, &circuit, budget)?;
-    Ok(texts)
+    or_no_memory(sync_texts(alloc, &circuit, budget))
 }
 
-// Makes both files, and writes them. The line on Out comes before the record's last, so that a record that ends with it
-// is whole, and so is the list.
+// Makes both files, and writes the list and then the record, so that the list is whole where the record is.
 fn write_texts<D: Desk>(
     desk: &mut D,
     tests: &str,
@@ -96,10 +92,7 @@ fn write_texts<D: Desk>(
     create(desk, OutPort::Tests, tests)?;
     create(desk, OutPort::Report, out)?;
     put(desk, OutPort::Tests, &texts.tests)?;
-    put(desk, OutPort::Report, &texts.body)?;
-    put(desk, OutPort::Out, &texts.said)?;
-    put(desk, OutPort::Report, &texts.last)?;
-    Ok(())
+    put_report(desk, &texts.body, &texts.said, &texts.last)
 }
 
 /// Runs `sync`: reads the netlist, searches for a shortest list that makes every flip-flop definite, and writes the list
@@ -109,9 +102,9 @@ fn write_texts<D: Desk>(
 /// Those of the run.
 pub fn synchronize<D: Desk>(
     alloc: Global,
-    netlist: &str,
-    tests: &str,
-    out: &str,
+    netlist: &FileName,
+    tests: &FileName,
+    out: &FileName,
     budget: u64,
     desk: &mut D,
 ) -> Result<(), RunError>
@@ -119,7 +112,6 @@ pub fn synchronize<D: Desk>(
     ensures { EndsJob (asked.sync netlist.now tests.now out.now budget) result (D.view desk.old)
         (D.view desk.new) }
 {
-    let texts = make_texts(alloc, netlist, budget, desk)?;
-    write_texts(desk, tests, out, &texts)?;
-    Ok(())
+    let texts = make_texts(alloc, netlist.as_str(), budget, desk)?;
+    write_texts(desk, tests.as_str(), out.as_str(), &texts)
 }

@@ -1,16 +1,16 @@
 //! The command `uninit`.
-ghost use Rattle.std.specs.Prelude.{◌++◌, List, ℕ, IfOk, IfErr};
+ghost use Rattle.std.specs.Prelude.{◌++◌, List, ℕ, IfOk};
 ghost use Rattle.ht_ports.specs.declared.ports.OutPort.TheVariants as out_port;
 ghost use Rattle.ht_asked.specs.Asked as asked;
 ghost use Rattle.ht_app.specs.Outputs.{IsUninitReport, file_acts};
-ghost use Rattle.ht_inputs.specs.Reading.{EndsReading};
-ghost use Rattle.ht_app.specs.Steps.{IsPrepared};
+ghost use Rattle.ht_app.specs.Steps.{Prepares};
 
-use crate::made::Made;
+use crate::made::{Made, or_no_memory};
 use ht_inputs::{RunError, list_faults, read_netlist};
 use ht_net::Circuit;
 use ht_ports::Desk;
 use ht_uninit::{uninit_of_all, write_uninit_body, write_uninit_total};
+use ht_words::FileName;
 use std::alloc::{AllocError, Global};
 
 // Finds the flip-flops that never get a definite value, and the faults that they hide; each search has the budget.
@@ -33,18 +33,14 @@ fn uninit_texts(alloc: Global, circuit: &Circuit, budget: u64) -> Result<Made, A
 /// Those of the netlist, or out of memory.
 pub fn uninit<D: Desk>(
     alloc: Global,
-    netlist: &str,
+    netlist: &FileName,
     budget: u64,
     desk: &mut D,
 ) -> Result<Made, RunError>
-    ensures made { (out : List ℕ) → IfOk result (λ made. IsPrepared
-        (asked.uninit netlist.now out budget)
-        (file_acts out_port.Report out made.body.items made.total.items) (D.view desk.old)
-        (D.view desk.new)) }
-    ensures stopped { (out : List ℕ) → IfErr result (EndsReading
-        (asked.uninit netlist.now out budget) (D.view desk.old) (D.view desk.new)) }
+    ensures { (out : List ℕ) → Prepares (asked.uninit netlist.now out budget)
+        (λ made. file_acts out_port.Report out made.body.items made.total.items) result
+        (D.view desk.old) (D.view desk.new) }
 {
-    let circuit = read_netlist(alloc, desk, netlist)?;
-    let made = uninit_texts(alloc, &circuit, budget)?;
-    Ok(made)
+    let circuit = read_netlist(alloc, desk, netlist.as_str())?;
+    or_no_memory(uninit_texts(alloc, &circuit, budget))
 }

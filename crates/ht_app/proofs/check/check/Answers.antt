@@ -6,10 +6,5 @@ pub returns-in_err-judge : goal.returns-in_err-judge
 returns-in_err-judge g c =
     let ends = ends_unread c.in_err-judge.ensures.stopped in search (rules, ends)
 
-pub returns-in_err-put : goal.returns-in_err-put
-returns-in_err-put g c =
-    let ends = ends_by c.in_ok-judge.ensures.made ((refl, λ file. absurd file), tt) c.in_err-put.ensures.does in
-    search (rules, ends)
-
 pub returns : goal.returns
-returns g c = ends_by c.in_ok-judge.ensures.made ((refl, λ file. absurd file), tt) c.in_ok-put.ensures.does
+returns g c = ends_by c.in_ok-judge.ensures.made ((refl, λ file. absurd file), tt) c.put.ensures.does

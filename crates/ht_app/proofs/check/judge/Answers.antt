@@ -75,25 +75,25 @@ report_read g c entries = one_more (vectors_read g (goal.at.In_ok-claims g c).In
 
 -- ---- why it stops
 
-pub returns-in_err-graded-clause-stopped : goal.returns-in_err-graded-clause-stopped
-returns-in_err-graded-clause-stopped g c =
+pub returns-in_err-graded : goal.returns-in_err-graded
+returns-in_err-graded g c =
     let ends = c.in_err-graded.ensures.stopped (job c.args.files.now c.args.start.now)
     (judges c.args.files.now c.args.start.now) in
-    search (rules, ends)
+    record { made = search rules; stopped = search (rules, ends) }
 
 pub read_report-requires : goal.read_report-requires
 read_report-requires g c = c.in_ok-graded.ensures.graded.of_circuit
 
-pub returns-in_err-claims-clause-stopped : goal.returns-in_err-claims-clause-stopped
-returns-in_err-claims-clause-stopped g c =
+pub returns-in_err-claims : goal.returns-in_err-claims
+returns-in_err-claims g c =
     let f = c.args.files.now in
-    let at = goal.at.returns-in_err-claims-clause-stopped g c in
+    let at = goal.at.returns-in_err-claims g c in
     let graded = c.in_ok-graded.ensures.graded in
     let names = short_names graded.netlist.0 c.in_ok-graded.graded.circuit graded.netlist.1.stands in
     let ends = stops_there (vectors_read g at.In_ok-graded 0 [] []) refl (ap Some (sym c.as_str-report.ensures))
     c.in_err-claims.ensures.frame (λ is. tt) c.in_err-claims.field-0.0 (c.in_err-claims.ensures.stops f.netlist f.tests
     f.report f.proofs c.args.start.now (said g at.In_ok-graded 0 [] []) graded.first names) in
-    search (rules, ends)
+    record { made = search rules; stopped = search (rules, ends) }
 
 pub read_proofs-requires-clause-graded : goal.read_proofs-requires-clause-graded
 read_proofs-requires-clause-graded g c = c.in_ok-graded.ensures.graded.of_circuit
@@ -102,32 +102,34 @@ pub read_proofs-requires-clause-each : goal.read_proofs-requires-clause-each
 read_proofs-requires-clause-each g c =
     (report_is g (goal.at.read_proofs-requires-clause-each g c).In_ok-claims []).each
 
-pub returns-in_err-read_proofs-clause-stopped : goal.returns-in_err-read_proofs-clause-stopped
-returns-in_err-read_proofs-clause-stopped g c =
+pub returns-in_err-read_proofs : goal.returns-in_err-read_proofs
+returns-in_err-read_proofs g c =
     let f = c.args.files.now in
-    let at = (goal.at.returns-in_err-read_proofs-clause-stopped g c).In_ok-claims in
+    let at = (goal.at.returns-in_err-read_proofs g c).In_ok-claims in
     let ends = stops_there (report_read g at []) refl (ap Some (sym c.as_str.ensures))
     c.in_err-read_proofs.ensures.frame (λ is. tt) c.in_err-read_proofs.field-0.0 (c.in_err-read_proofs.ensures.stops
     f.netlist f.tests f.report f.proofs c.args.start.now (claimed g at []) refl refl refl) in
-    search (rules, ends)
+    record { made = search rules; stopped = search (rules, ends) }
 
 -- ---- all are valid
 
-pub returns-clause-made : goal.returns-clause-made
-returns-clause-made g c =
-    let at = (goal.at.returns-clause-made g c).In_ok-claims in
+pub returns : goal.returns
+returns g c =
+    let at = (goal.at.returns g c).In_ok-claims in
     let graded = c.in_ok-graded.ensures.graded in
     let of = graded.of_circuit in
     let (entries, proofs) = c.in_ok-read_proofs.ensures.read (claimed g at []) refl refl refl
-    (report_is g at []).agrees in
-    all_read (one_more (report_read g at entries) refl (ap Some (sym c.as_str.ensures))
-    c.in_ok-read_proofs.ensures.frame graded.netlist proofs.read) (no_more c.args.files.now c.args.start.now)
-    graded.netlist _ (
-      record {
-        classes = of.classes;
-        justified = proofs.justified;
-        verdicts = true_verdicts _ _ _ of.circuit of.classes of.latches proofs.justified;
-        decided = are_decided _ _ _ of.circuit of.latches proofs.justified;
-      },
-      refl,
-    )
+    (report_is g at []).agrees in record {
+      made = all_read (one_more (report_read g at entries) refl (ap Some (sym c.as_str.ensures))
+          c.in_ok-read_proofs.ensures.frame graded.netlist proofs.read) (no_more c.args.files.now c.args.start.now)
+          graded.netlist _ (
+            record {
+              classes = of.classes;
+              justified = proofs.justified;
+              verdicts = true_verdicts _ _ _ of.circuit of.classes of.latches proofs.justified;
+              decided = are_decided _ _ _ of.circuit of.latches proofs.justified;
+            },
+            refl,
+          );
+      stopped = tt;
+    }

@@ -8,10 +8,5 @@ returns-in_err-create-clause-does g c =
     let does = does_in_part (put c.args.port c.args.text.now ∷ []) c.in_err-create.ensures.does in
     search (rules, does)
 
-pub returns-in_err-put-clause-does : goal.returns-in_err-put-clause-does
-returns-in_err-put-clause-does g c =
-    let does = does_then c.in_ok-create.ensures.does c.in_err-put.ensures.does in
-    search (rules, does)
-
 pub returns-clause-does : goal.returns-clause-does
-returns-clause-does g c = does_then c.in_ok-create.ensures.does c.in_ok-put.ensures.does
+returns-clause-does g c = does_then c.in_ok-create.ensures.does c.put.ensures.does

@@ -17,14 +17,7 @@ returns-in_err-put g c =
     (rw c.deref-2.ensures.value at c.in_err-put.ensures.does)) in
     search (rules, does)
 
-pub returns-in_err-end_file : goal.returns-in_err-end_file
-returns-in_err-end_file g c =
-    let does = does_then (rw c.deref.ensures.value at c.in_ok-begin_file.ensures.does)
-    (does_then (rw c.deref-2.ensures.value at c.in_ok-put.ensures.does)
-    (rw c.deref-3.ensures.value at c.in_err-end_file.ensures)) in
-    search (rules, does)
-
 pub returns : goal.returns
 returns g c = does_then (rw c.deref.ensures.value at c.in_ok-begin_file.ensures.does)
     (does_then (rw c.deref-2.ensures.value at c.in_ok-put.ensures.does)
-    (rw c.deref-3.ensures.value at c.in_ok-end_file.ensures))
+    (rw c.deref-3.ensures.value at c.end_file.ensures))

@@ -1,4 +1,5 @@
 use Rattle.std.proofs.Common.{◌≡◌, ◌≤◌, List, [], ℕ, Option, true, refl, sym, ap, rules, arith}
+use Rattle.std.proofs.lemmas.Result.{IfOk-weaker}
 use Rattle.std.specs.Prelude.{None, Some}
 use Rattle.ht_app.proofs.Common.{Asked, Content, HasReadTo, InPort, Numbered, RunFiles, Said, input_name, order_of}
 use Rattle.ht_asked.specs.Asked as asked
@@ -10,8 +11,8 @@ use Rattle.ht_valid.proofs.DecidedLaws.{are_decided}
 use Rattle.ht_valid.proofs.TruthLaws.{true_verdicts}
 use Rattle.ht_inputs.specs.Grading.{JudgesFiles}
 use Rattle.ht_inputs.specs.Judging.{VerdictsAreRead, report_basis}
-use Rattle.ht_inputs.proofs.ReadingLaws.{no_room, one_more, read_so, skipped, stops_there}
-use Rattle.ht_app.proofs.PreparedLaws.{all_read}
+use Rattle.ht_inputs.proofs.ReadingLaws.{one_more, read_so, skipped, stops_there}
+use Rattle.ht_app.proofs.PreparedLaws.{prepares}
 use Rattle.ht_app.proofs.report.report.Given as given
 use Rattle.ht_app.proofs.report.report.Goals as goal
 use Rattle.ht_app.proofs.report.report.Goals.{In_ok-claims, In_ok-graded}
@@ -79,28 +80,23 @@ all_reads g c =
 
 -- ---- why it stops
 
-pub returns-in_err-graded-clause-stopped : goal.returns-in_err-graded-clause-stopped
-returns-in_err-graded-clause-stopped g c =
+pub returns-in_err-graded : goal.returns-in_err-graded
+returns-in_err-graded g c =
     let ends = c.in_err-graded.ensures.stopped (job c.args.files.now c.args.budget c.args.start.now)
     (judges c.args.files.now c.args.budget c.args.start.now) in
-    search (rules, ends)
+    record { made = search rules; stopped = search (rules, ends) }
 
 pub read_verdicts-requires-clause-graded : goal.read_verdicts-requires-clause-graded
 read_verdicts-requires-clause-graded g c = c.in_ok-graded.ensures.graded.of_circuit
 
-pub returns-in_err-claims-clause-stopped : goal.returns-in_err-claims-clause-stopped
-returns-in_err-claims-clause-stopped g c =
+pub returns-in_err-claims : goal.returns-in_err-claims
+returns-in_err-claims g c =
     let f = c.args.files.now in
-    let at = goal.at.returns-in_err-claims-clause-stopped g c in
+    let at = goal.at.returns-in_err-claims g c in
     let ends = stops_there (vectors_read g at.In_ok-graded [] []) refl (ap Some (sym c.as_str.ensures))
     c.in_err-claims.ensures.frame (λ is. tt) c.in_err-claims.field-0.0 (c.in_err-claims.ensures.stops f.netlist f.tests
     f.proofs f.report c.args.start.now (said g at.In_ok-graded [] []) refl refl c.in_ok-graded.ensures.graded.first) in
-    search (rules, ends)
-
-pub returns-in_err-made-clause-stopped : goal.returns-in_err-made-clause-stopped
-returns-in_err-made-clause-stopped g c =
-    let ends = no_room (all_reads g (goal.at.returns-in_err-made-clause-stopped g c).In_ok-claims) in
-    search (rules, ends)
+    record { made = search rules; stopped = search (rules, ends) }
 
 -- ---- the report
 
@@ -125,13 +121,14 @@ report_texts-requires-clause-search g c =
       };
     }
 
-pub returns-clause-made : goal.returns-clause-made
-returns-clause-made g c =
-    let at = (goal.at.returns-clause-made g c).In_ok-claims in
+pub returns : goal.returns
+returns g c =
+    let at = (goal.at.returns g c).In_ok-claims in
     let graded = c.in_ok-graded.ensures.graded in
     let of = graded.of_circuit in
     let is = verdicts_are g at in
-    all_read (all_reads g at) (no_more c.args.files.now c.args.budget c.args.start.now) graded.netlist _ (
+    prepares (all_reads g at) _ _ _ (no_more c.args.files.now c.args.budget c.args.start.now) graded.netlist
+    c.or_no_memory.ensures (IfOk-weaker c.report_texts.result _ _ (λ made so. (
       refl,
       record {
         classes = of.classes;
@@ -139,5 +136,5 @@ returns-clause-made g c =
         verdicts = true_verdicts _ _ _ of.circuit of.classes of.latches is.are.justified;
         decided = are_decided _ _ _ of.circuit of.latches is.are.justified;
       },
-      record { body = _; total = _; so = rw is.budget at c.in_ok-made.ensures; acts_are = refl },
-    )
+      record { body = _; total = _; so = so; acts_are = refl },
+    )) (rw is.budget at c.report_texts.ensures))

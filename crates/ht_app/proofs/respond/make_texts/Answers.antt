@@ -1,12 +1,13 @@
 use Rattle.std.proofs.Common.{◌≡◌, ◌≤◌, List, [], ℕ, Bool, refl, rules, arith}
+use Rattle.std.proofs.lemmas.Result.{IfOk-weaker}
 use Rattle.std.specs.Prelude.{None, Option}
 use Rattle.ht_app.proofs.Common.{Extra, HasReadTo, InPort, SaysBasis, Tern, input_name, order_of, respond}
 use Rattle.ht_ports.specs.declared.ports.InPort.TheVariants.{Netlist, Tests}
 use Rattle.ht_net.specs.Detection.{unknown_state}
 use Rattle.ht_inputs.proofs.FaultLaws.{fault_ends}
 use Rattle.ht_app.proofs.UnlistedLaws.{machine_listed}
-use Rattle.ht_inputs.proofs.ReadingLaws.{basis_from, basis_of, no_room, one_more, read_so, stops_there, tests_stop}
-use Rattle.ht_app.proofs.PreparedLaws.{all_read}
+use Rattle.ht_inputs.proofs.ReadingLaws.{basis_from, basis_of, one_more, read_so, stops_there, tests_stop}
+use Rattle.ht_app.proofs.PreparedLaws.{prepares}
 use Rattle.ht_app.proofs.respond.make_texts.Given as given
 use Rattle.ht_app.proofs.respond.make_texts.Goals as goal
 use Rattle.ht_app.proofs.respond.make_texts.Goals.{In_ok-circuit, In_ok-list, In_ok-start}
@@ -50,54 +51,47 @@ all_reads g c out =
     (basis_from c.in_ok-circuit.circuit c.in_ok-start.start.items c.in_ok-list.list.list []) Tests)
     (λ text are. are.all (omega (arith, c.in_ok-list.ensures.few))) c.in_ok-list.ensures.read)
 
-pub returns-in_err-circuit-clause-stopped : goal.returns-in_err-circuit-clause-stopped
-returns-in_err-circuit-clause-stopped g c = λ out.
+pub returns-in_err-circuit : goal.returns-in_err-circuit
+returns-in_err-circuit g c = λ out.
     let ends = c.in_err-circuit.ensures.stops
     (respond c.args.netlist.now c.args.tests.now out c.args.number c.args.start.now) refl in
-    search (rules, ends)
+    record { made = search rules; stopped = search (rules, ends) }
 
-pub returns-in_err-start-clause-stopped : goal.returns-in_err-start-clause-stopped
-returns-in_err-start-clause-stopped g c = λ out.
-    let before = reads g (goal.at.returns-in_err-start-clause-stopped g c).In_ok-circuit out
+pub returns-in_err-start : goal.returns-in_err-start
+returns-in_err-start g c = λ out.
+    let before = reads g (goal.at.returns-in_err-start g c).In_ok-circuit out
     (unknown_state c.in_ok-circuit.circuit) [] (λ none. refl) in
     let ends = c.in_err-start.ensures.stopped
     (respond c.args.netlist.now c.args.tests.now out c.args.number c.args.start.now)
     (basis_of c.in_ok-circuit.circuit [] []) (g.D.Desk.view c.args.desk.now) refl refl refl before in
-    search (rules, ends)
+    record { made = search rules; stopped = search (rules, ends) }
 
-pub returns-in_err-fault-clause-stopped : goal.returns-in_err-fault-clause-stopped
-returns-in_err-fault-clause-stopped g c = λ out.
-    let before = start_reads g (goal.at.returns-in_err-fault-clause-stopped g c).In_ok-start out [] in
+pub returns-in_err-fault : goal.returns-in_err-fault
+returns-in_err-fault g c = λ out.
+    let before = start_reads g (goal.at.returns-in_err-fault g c).In_ok-start out [] in
     let ends = fault_ends c.args.netlist.now c.args.tests.now out c.args.number c.args.start.now before
     c.in_err-fault.field-0.0 c.in_err-fault.ensures.stops in
-    search (rules, ends)
+    record { made = search rules; stopped = search (rules, ends) }
 
-pub returns-in_err-list-clause-stopped : goal.returns-in_err-list-clause-stopped
-returns-in_err-list-clause-stopped g c = λ out.
-    let before = start_reads g (goal.at.returns-in_err-list-clause-stopped g c).In_ok-start out [] in
+pub returns-in_err-list : goal.returns-in_err-list
+returns-in_err-list g c = λ out.
+    let before = start_reads g (goal.at.returns-in_err-list g c).In_ok-start out [] in
     let listed = machine_listed c.in_ok-circuit.circuit c.args.number c.in_ok-fault.fault c.in_ok-fault.ensures.machine in
     let ends = stops_there before refl refl c.in_err-list.ensures.frame (λ is. listed) c.in_err-list.field-0.0
     (tests_stop (respond c.args.netlist.now c.args.tests.now out c.args.number c.args.start.now)
     (basis_from c.in_ok-circuit.circuit c.in_ok-start.start.items [] []) _ _ _ _
     (λ line. refl) (λ line text early wrong. wrong) listed _ c.in_err-list.ensures.stops) in
-    search (rules, ends)
+    record { made = search rules; stopped = search (rules, ends) }
 
-pub returns-in_err-texts-clause-stopped : goal.returns-in_err-texts-clause-stopped
-returns-in_err-texts-clause-stopped g c = λ out.
-    let ends = no_room (all_reads g (goal.at.returns-in_err-texts-clause-stopped g c).In_ok-list out) in
-    search (rules, ends)
-
-pub returns-clause-made : goal.returns-clause-made
-returns-clause-made g c = λ out.
-    let made = rw c.deref.ensures.value at c.in_ok-texts.ensures in
-    all_read (all_reads g (goal.at.returns-clause-made g c).In_ok-list out)
-    (no_more c.args.netlist.now c.args.tests.now out c.args.number c.args.start.now) c.in_ok-circuit.ensures.netlist _
-    (record {
+pub returns : goal.returns
+returns g c = λ out. prepares (all_reads g (goal.at.returns g c).In_ok-list out) _ _ _
+    (no_more c.args.netlist.now c.args.tests.now out c.args.number c.args.start.now) c.in_ok-circuit.ensures.netlist
+    c.or_no_memory.ensures (IfOk-weaker c.response_texts.result _ _ (λ texts are. record {
       fault = c.in_ok-fault.fault;
       body = _;
       said = _;
       last = _;
       machine = c.in_ok-fault.ensures.machine;
-      so = made;
+      so = are;
       acts_are = refl;
-    })
+    }) (rw c.deref.ensures.value at c.response_texts.ensures))

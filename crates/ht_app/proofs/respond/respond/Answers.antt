@@ -13,19 +13,14 @@ permitted netlist tests out number start body said last = (
 
 pub returns-in_err-texts : goal.returns-in_err-texts
 returns-in_err-texts g c =
-    let ends = ends_unread (c.in_err-texts.ensures.stopped c.args.out.now) in search (rules, ends)
-
-pub returns-in_err-write_texts : goal.returns-in_err-write_texts
-returns-in_err-write_texts g c =
-    let t = c.in_ok-texts.texts in
-    let ends = ends_by (c.in_ok-texts.ensures.made c.args.out.now)
-    (permitted c.args.netlist.now c.args.tests.now c.args.out.now c.args.number c.args.start.now t.body.items
-    t.said.items t.last.items) c.in_err-write_texts.ensures in
+    let ends = ends_unread (rw (c.as_str.ensures, c.as_str-2.ensures) at (c.in_err-texts.ensures c.args.out.now)).stopped in
     search (rules, ends)
 
 pub returns : goal.returns
 returns g c =
     let t = c.in_ok-texts.texts in
-    ends_by (c.in_ok-texts.ensures.made c.args.out.now)
+    ends_by (rw (c.as_str.ensures, c.as_str-2.ensures) at (c.in_ok-texts.ensures c.args.out.now)).made
     (permitted c.args.netlist.now c.args.tests.now c.args.out.now c.args.number c.args.start.now t.body.items
-    t.said.items t.last.items) c.in_ok-write_texts.ensures
+    t.said.items t.last.items)
+    (rw (c.as_str-3.ensures, c.deref.ensures.value, c.deref-2.ensures.value, c.deref-3.ensures.value)
+    at c.write_report.ensures)

@@ -15,19 +15,12 @@ permitted netlist tests out budget list body said last = (
 
 pub returns-in_err-texts : goal.returns-in_err-texts
 returns-in_err-texts g c =
-    let ends = ends_unread (c.in_err-texts.ensures.stopped c.args.tests.now c.args.out.now) in search (rules, ends)
-
-pub returns-in_err-write_texts : goal.returns-in_err-write_texts
-returns-in_err-write_texts g c =
-    let t = c.in_ok-texts.texts in
-    let ends = ends_by (c.in_ok-texts.ensures.made c.args.tests.now c.args.out.now)
-    (permitted c.args.netlist.now c.args.tests.now c.args.out.now c.args.budget t.tests.items t.body.items
-    t.said.items t.last.items) c.in_err-write_texts.ensures in
+    let ends = ends_unread (rw c.as_str.ensures at (c.in_err-texts.ensures c.args.tests.now c.args.out.now)).stopped in
     search (rules, ends)
 
 pub returns : goal.returns
 returns g c =
     let t = c.in_ok-texts.texts in
-    ends_by (c.in_ok-texts.ensures.made c.args.tests.now c.args.out.now)
+    ends_by (rw c.as_str.ensures at (c.in_ok-texts.ensures c.args.tests.now c.args.out.now)).made
     (permitted c.args.netlist.now c.args.tests.now c.args.out.now c.args.budget t.tests.items t.body.items
-    t.said.items t.last.items) c.in_ok-write_texts.ensures
+    t.said.items t.last.items) (rw (c.as_str-2.ensures, c.as_str-3.ensures) at c.write_texts.ensures)
