@@ -9,14 +9,9 @@ pub const ROWS: &str = "~text TESTS
 ~given t < TESTS
 ~given r < ZERO_HEAD ZERO_2_TO_4 ZERO_5 ZERO_6_TO_11 ZERO_TOTAL
 ~with p 0 valid < FORMAT_2 ZERO_1_AND_2 ZERO_3 END
-~text FORMAT_1
-proofs 1
 ~with p 0 valid < FORMAT_1 ZERO_1_AND_2 ZERO_3 END
-~text FORMAT_3
-proofs 3
 ~with p 0 valid < FORMAT_3 ZERO_1_AND_2 ZERO_3 END
-~text FORMAT_4
-proofs 4
+~line FORMAT_4 proofs 4
 ~with p 1 denied: proofs line 1 < FORMAT_4 ZERO_1_AND_2 ZERO_3 END
 ~# a word that is none; the last entry without its last token; no end, and a line after it
 ~with p 1 denied: proofs line 15 < FORMAT_2 ZERO_1_AND_2
@@ -51,15 +46,11 @@ end
 ~# the budget of the head is from 1 to 100,000, without a leading zero
 ~with r 1 denied: report line 2
 circuit inputs 1 outputs 1 flip-flops 0 gates 2 faults 10 classes 6 budget 100000
-~with r 1 denied: report line 1
+~each r 1 denied: report line 1
 circuit inputs 1 outputs 1 flip-flops 0 gates 2 faults 10 classes 6 budget 100001
-~with r 1 denied: report line 1
 circuit inputs 1 outputs 1 flip-flops 0 gates 2 faults 10 classes 6 budget 0
-~with r 1 denied: report line 1
 circuit inputs 1 outputs 1 flip-flops 0 gates 2 faults 10 classes 6 budget 010
-~with r 1 denied: report line 1
 circuit inputs 1 outputs 1 flip-flops 0 gates 2 faults 10 classes 7 budget 1000
-~with r 1 denied: report line 1
 circuit inputs 1 outputs 1 flip-flops 0 gates 2 faults 10 classes 6
 ~with r 1 denied: report line 1
 ~# lines of faults: their numbers, sites, verdicts and representatives
@@ -67,17 +58,12 @@ circuit inputs 1 outputs 1 flip-flops 0 gates 2 faults 10 classes 6
 ~given n < ALWAYS_ZERO
 ~given t < TESTS
 ~given r < ZERO_HEAD
-~with r 1 denied: report line 2
+~each r 1 denied: report line 2
 1 a s-a-0 detected
-~with r 1 denied: report line 2
 1 a s-a-0 untestable\x20
-~with r 1 denied: report line 2
 1 a s-a-1 untestable
-~with r 1 denied: report line 2
 2 a s-a-0 untestable
-~with r 1 denied: report line 2
 1 a s-a-0 as 1
-~with r 1 denied: report line 2
 1  a s-a-0 untestable
 ~with r 1 denied: report line 2
 ~run check n t r p
@@ -85,32 +71,24 @@ circuit inputs 1 outputs 1 flip-flops 0 gates 2 faults 10 classes 6
 ~given t < TESTS
 ~given r < ZERO_HEAD ZERO_2_TO_4
 ~# the first vector detects fault 4 at the one output; the second isn't the first that does
-~with r 1 denied: report line 5
+~each r 1 denied: report line 5
 4 n s-a-1 detected 2 z
-~with r 1 denied: report line 5
 4 n s-a-1 untestable
-~with r 1 denied: report line 5
 4 n s-a-1 detected 18446744073709551617 z
-~with r 1 denied: report line 5
 4 n s-a-1 detected 1 a
-~with r 1 denied: report line 5
 4 n s-a-1 detected 1
-~with r 1 denied: report line 6 < ZERO_5
+~each r 1 denied: report line 6 < ZERO_5
 5 z s-a-0 as 4
-~with r 1 denied: report line 6 < ZERO_5
 5 z s-a-0 untestable
 ~# totals that aren't the sum, or say what they needn't, and a line after them
 ~run check n t r p
 ~given n < ALWAYS_ZERO
 ~given t < TESTS
 ~given r < ZERO_HEAD ZERO_2_TO_4 ZERO_5 ZERO_6_TO_11
-~with r 1 denied: report line 12
+~each r 1 denied: report line 12
 total 6 detected 3 untestable 2 aborted 1
-~with r 1 denied: report line 12
 total 6 detected 3
-~with r 1 denied: report line 12
 total 6 detected 3 untestable 3 aborted 0 undetectable 0
-~with r 1 denied: report line 12
 total 6 detected 3 untestable 3 aborted 0 undetected 0
 ~with r 1 denied: report line 12
 ~with r 1 denied: report line 13 < ZERO_TOTAL ZERO_TOTAL

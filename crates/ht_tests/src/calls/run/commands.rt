@@ -162,24 +162,17 @@ X
 ~given n
 INPUT(a)
 q = DFF(q)
-OUTPUT(and)
-OUTPUT(nand)
-OUTPUT(or)
-OUTPUT(nor)
-OUTPUT(xor)
-OUTPUT(xnor)
-OUTPUT(not)
-OUTPUT(odd)
-OUTPUT(unknown)
-and = AND(a, q)
-nand = NAND(a, q)
-or = OR(a, q)
-nor = NOR(a, q)
-xor = XOR(a, q)
-xnor = XNOR(a, q)
-not = NOT(a)
-odd = XOR(a, a, a)
-unknown = BUFF(q)
+z1 = AND(a, q)
+z2 = NAND(a, q)
+z3 = OR(a, q)
+z4 = NOR(a, q)
+z5 = XOR(a, q)
+z6 = XNOR(a, q)
+z7 = NOT(a)
+z8 = XOR(a, a, a)
+z9 = BUFF(q)
+~times 9 n
+OUTPUT(z%)
 ~with t 0 responses vectors 2 outputs 9
 1
 0
@@ -217,9 +210,7 @@ set 3 0
 ~# Two latches have to be decided before their XOR is known, and a budget of 1 is spent at the first. What q holds is
   read nowhere.
 ~run uninit n r --budget 1
-~given n
-INPUT(a)
-INPUT(b)
+~given n < INPUTS_A_B
 OUTPUT(z)
 p = DFF(a)
 r = DFF(b)
@@ -246,8 +237,7 @@ x 3
   one
 ~run sync n t r
 ~given n < HIDDEN
-~given t
-old tests
+~given t < OLD_TESTS
 ~ends 0 sync 2
 ~left t
 0
@@ -261,14 +251,11 @@ state 00
 ~# No list makes the toggle definite. Lengths 1 to 4 take a budget of 10.
 ~run sync n t r --budget 10
 ~given n < TOGGLE
-~given t
-old tests
+~given t < OLD_TESTS
 ~ends 0 spent 4
 ~left t
-~text SYNC
-sync flip-flops 1 budget 10
-~text SPENT
-spent
+~line SYNC sync flip-flops 1 budget 10
+~line SPENT spent
 ~left r < SYNC LENGTHS_1_TO_4 SPENT
 ~run sync n t r
 ~given n < ALWAYS_ZERO

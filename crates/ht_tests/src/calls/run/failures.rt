@@ -12,36 +12,27 @@ pub const ROWS: &str = "~run gen n t r p
 ~left r < ZERO_HEAD ZERO_2_TO_4 ZERO_5 ZERO_6_TO_11 ZERO_TOTAL
 ~left p < FORMAT_2 ZERO_1_AND_2 ZERO_3 END
 ~fails
-open netlist 0|4 - - - 0
-read netlist 1|4 - - - 0
-read netlist 2|4 - - - 0
-read netlist 3|4 - - - 0
-read netlist 4|4 - - - 0
-read netlist 5|0 2 12 17 1
-create tests 0|5 - - - 0
-create report 0|5 0 - - 0
-create proofs 0|5 0 0 - 0
-write tests 1|5 0 0 16 0
-write tests 2|5 1 0 16 0
-write tests 3|0 2 12 17 1
-write report 1|5 2 0 17 0
-write report 2|5 2 11 17 1
-write report 3|0 2 12 17 1
-write proofs 1|5 0 0 0 0
-write proofs 2|5 0 0 1 0
-write proofs 3|5 0 0 6 0
-write proofs 4|5 0 0 11 0
-write proofs 5|5 2 0 16 0
-write proofs 6|0 2 12 17 1
-write out 1|5 2 11 17 0
-write out 2|0 2 12 17 1
-write err 1|0 2 12 17 1
+4 - - - 0: open netlist 0, read netlist 1, read netlist 2, read netlist 3, read netlist 4
+5 - - - 0: create tests 0
+5 0 - - 0: create report 0
+5 0 0 - 0: create proofs 0
+5 0 0 16 0: write tests 1
+5 1 0 16 0: write tests 2
+5 2 0 17 0: write report 1
+5 2 11 17 1: write report 2
+5 0 0 0 0: write proofs 1
+5 0 0 1 0: write proofs 2
+5 0 0 6 0: write proofs 3
+5 0 0 11 0: write proofs 4
+5 2 0 16 0: write proofs 5
+5 2 11 17 0: write out 1
+0 2 12 17 1: read netlist 5, write tests 3, write report 3, write proofs 6, write out 2, write err 1
 ~# the third piece of a longer netlist
 ~run gen n t r p
 ~given n < S27
 ~most 100
 ~fails
-read netlist 3|4 - - - 0
+4 - - - 0: read netlist 3
 ~run sim n t r
 ~given n < SHIFT_REGISTER
 ~given t
@@ -50,62 +41,17 @@ read netlist 3|4 - - - 0
 0
 ~ends 0 total 6 detected 3
 ~fails
-open netlist 0|4 3 - - 0
-open tests 0|4 3 - - 0
-create report 0|5 3 - - 0
-write report 1|5 3 0 - 0
-write report 2|5 3 7 - 1
-write out 1|5 3 7 - 0
+4 3 - - 0: open netlist 0, open tests 0
+5 3 - - 0: create report 0
+5 3 0 - 0: write report 1
+5 3 7 - 1: write report 2
+5 3 7 - 0: write out 1
 ~run norm n r
 ~given n < SHIFT_REGISTER
 ~ends 0
 ~left r < SHIFT_REGISTER
 ~fails
-open netlist 0|4 - - - 0
-create report 0|5 - - - 0
-write report 1|5 - 0 - 0
-~# each other status stays where the line on Err fails
-~run
-~mute 2
-~run norm n r
-~given n
-INPUT(=)
-~mute 3
-~run check n t r p --start s
-~given n < TOGGLE
-~given t
-0
-~given s
-0
-~mute 1
-~run sim n t r --start s
-~given n < TOGGLE
-~given t
-0
-~mute 4
-~given s
-0
-~mute 7
-~given s
-1
-~mute 8
-~run compact n t r
-~given n < SHIFT_REGISTER
-~times 4097 t
-0
-~mute 9
-~run diagnose n t s r
-~given n < SHIFT_REGISTER
-~given t
-~given s
-0
-~mute 10
-~run respond n t r --fault 7
-~given n < SHIFT_REGISTER
-~mute 12
-~run gen n t r p --faults l
-~given n < TOGGLE
-~given l
-0
-~mute 13
+4 - - - 0: open netlist 0
+5 - - - 0: create report 0
+5 - 0 - 0: write report 1
 ";

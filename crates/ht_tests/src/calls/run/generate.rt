@@ -4,8 +4,7 @@ pub const ROWS: &str =
     "~# over the empty netlist the report has no lines, and a vector is an empty line
 ~run gen n t r p --random 3
 ~given n
-~given t
-old tests
+~given t < OLD_TESTS
 ~ends 0 total 0 detected 0 untestable 0 aborted 0
 ~left t
 
@@ -18,10 +17,8 @@ total 0 detected 0 untestable 0 aborted 0
 ~# The latch stays unknown, so each fault is aborted: the search back spends its budget, and so does the sweep.
 ~run gen n t r p --budget 10
 ~given n < TOGGLE
-~text OF_2_ABORTED
-entry 2 aborted
-~text OF_4_ABORTED
-entry 4 aborted
+~line OF_2_ABORTED entry 2 aborted
+~line OF_4_ABORTED entry 4 aborted
 ~ends 0 total 4 detected 0 untestable 0 aborted 4
 ~left t
 ~left p < FORMAT_2 OF_1_ABORTED OUTPUT_1_IS_1 BACK_TO_1 SWEEP LENGTHS_1_TO_4 OF_2_ABORTED OUTPUT_1_IS_0 BACK_TO_0 SWEEP LENGTHS_1_TO_4 OF_3_ABORTED STATE_IS_0 BACK_TO_0 SWEEP LENGTHS_1_TO_4 OF_4_ABORTED STATE_IS_1 BACK_TO_1 SWEEP LENGTHS_1_TO_4 END
@@ -30,25 +27,16 @@ entry 4 aborted
 ~given n
 q = DFF(q)
 ~ends 0 total 2 detected 0 untestable 2 aborted 0
-~left p
-proofs 2
-entry 1 untestable
+~text STAYS
 z 1
 walk
 dead
-entry 2 untestable
-z 1
-walk
-dead
-end
+~left p < FORMAT_2 OF_1 STAYS OF_2 STAYS END
 ~# the first input goes nowhere
 ~run gen n t r p
-~given n
-INPUT(a)
-INPUT(b)
+~given n < INPUTS_A_B
 OUTPUT(b)
-~given t
-old tests
+~given t < OLD_TESTS
 ~ends 0 total 4 detected 2 untestable 2 aborted 0
 ~left t
 01
@@ -65,9 +53,7 @@ old tests
 ~left t
 1
 0
-~has p
-proofs 2
-entry 3 untestable
+~has p < FORMAT_2 OF_3
 z 2
 walk
 dead
@@ -167,8 +153,7 @@ circuit inputs 4 outputs 1 flip-flops 3 gates 10 faults 52 classes 32 budget 100
 ~has r
 3 b s-a-0 untestable
 4 b s-a-1 untestable
-~text NEXT
-entry 4 untestable from 00
+~line NEXT entry 4 untestable from 00
 ~has p < FROM_00 Q_WITH_P P_WITH_Q EQUAL NEXT Q_WITH_P P_WITH_Q EQUAL END
 ~# the latch stays unknown whatever comes
 ~run gen n t r p --budget 10 --search deep
@@ -213,13 +198,10 @@ end
 ~with l 13 faults: line 2
 3
 
-~with l 13 faults: line 1
+~each l 13 faults: line 1
 11
-~with l 13 faults: line 1
 0
-~with l 13 faults: line 1
 03
-~with l 13 faults: line 1
 +3
 ~# the first vectors are read before the list of faults
 ~run gen n t r p --faults l --first f
@@ -232,40 +214,25 @@ end
 ~given n
 a = NOT(b)
 b = NOT(a)
-~given t
-old tests
+~given t < OLD_TESTS
 ~ends 3 netlist: line 1: loop a b
-~left t
-old tests
+~left t < OLD_TESTS
 ~# from 0 on the toggle counts
 ~run gen n t r p --budget=1 --random=2 --start=s
 ~given n < TOGGLE
-~given t
-old tests
-~text COUNTED
-circuit inputs 0 outputs 1 flip-flops 1 gates 1 faults 6 classes 4 budget 1
-1 q s-a-0 detected 2 q
-2 q s-a-1 detected 1 q
-3 n s-a-0 detected 2 q
-4 n s-a-1 aborted
-5 n(1) s-a-0 as 4
-6 n(1) s-a-1 as 3
-total 4 detected 3 untestable 0 aborted 1
-~text OF_FAULT_4
-proofs 2
-entry 4 aborted
+~given t < OLD_TESTS
+~line HEAD circuit inputs 0 outputs 1 flip-flops 1 gates 1 faults 6 classes 4 budget 1
+~line FAULT_4 4 n s-a-1 aborted
+~line TOTAL total 4 detected 3 untestable 0 aborted 1
+~text COUNTED < HEAD TOGGLE_1_TO_3 FAULT_4 TOGGLE_5_AND_6 TOTAL
+~text LO_1
 walk
 lo 1
-sweep
-length 1
-dead
-length 2
-end
+~text OF_FAULT_4 < FORMAT_2 OF_4_ABORTED LO_1 SWEEP LENGTH_1 END
 ~with s 8 start: line 2
 0
 0
-~left t
-old tests
+~left t < OLD_TESTS
 ~none r
 ~with s 0 total 4 detected 3 untestable 0 aborted 1
 0
@@ -285,9 +252,8 @@ old tests
 ~given p < OF_FAULT_4
 ~with s 0 valid
 0
-~with s 1 denied: report line 2
+~each s 1 denied: report line 2
 1
-~with s 1 denied: report line 2
 x
 ~with s 8 start: line 1
 2

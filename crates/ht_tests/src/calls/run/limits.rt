@@ -5,20 +5,20 @@ pub const ROWS: &str = "~run norm n r
 INPUT(i0)
 ~times 4096 n
 INPUT(i%)
-~ends 3 netlist: line 4097: too many inputs
+~once 3 netlist: line 4097: too many inputs
 ~none r
 ~run norm n r
 ~given n
 INPUT(a)
 ~times 65535 n
 n% = BUFF(a)
-~ends 3 netlist: line 65536: too many nets
+~once 3 netlist: line 65536: too many nets
 ~run norm n r
 ~given n
 INPUT(a)
 ~times 16385 n
 q% = DFF(a)
-~ends 3 netlist: line 16386: too many flip-flops
+~once 3 netlist: line 16386: too many flip-flops
 ~# the first two gates and 1,027 of 255 pins have all 262,144 pins; a is read 255 times: seven lines of 34 and one of 17
 ~run norm n r
 ~given n
@@ -33,7 +33,7 @@ g% = AND(a, a, a, a, a, a, a, a, a, a, a, a, a, a, a, a, a, a, a, a, a, a, a, a,
     a, a, a, a, a, a, a, a, a, a, a, a, a, a, a, a, a, a, a, a, a, a, a, a, a, a, a, a, a, a, a, a, a, a, \
     a, a, a, a, a, a, a, a, a, a, a, a, a, a, a, a, a, a, a, a, a, a, a, a, a, a, a, a, a, a, a, a, a, a, \
     a, a, a, a, a, a, a, a, a, a, a, a, a, a, a, a, a)
-~ends 3 netlist: line 1031: too many pins
+~once 3 netlist: line 1031: too many pins
 ~# a gate of 256 arguments, and a name of 256 bytes
 ~run norm n r
 ~given n
@@ -92,8 +92,9 @@ n% = BUFF(n^)
     ################################################################\
     ################################################################~ends 0
 ~left r
-~with n 3 netlist: too long
-#~none r
+~given n
+#~once 3 netlist: too long
+~none r
 ";
 
 /// The longest entry that is asked for.
@@ -106,5 +107,6 @@ entry 3 untestable
 walk
 ~times 100000 p
 hi %
-~with p 1 denied: fault 3 < END
+~given p < END
+~once 1 denied: fault 3
 ";

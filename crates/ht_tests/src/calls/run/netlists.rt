@@ -58,23 +58,15 @@ q = DFF(q)
 INPUT(a)
 OUTPUT(g)
 g = AND(a,~none r
-~with n 3 netlist: line 1: bad line
+~each n 3 netlist: line 1: bad line
 z
-~with n 3 netlist: line 1: bad line
 z = AND(,a)
-~with n 3 netlist: line 1: bad line
 z = AND(a b)
-~with n 3 netlist: line 1: bad line
 z = AND(a))
-~with n 3 netlist: line 1: bad line
 z == AND(a)
-~with n 3 netlist: line 1: bad line
 z = AND a
-~with n 3 netlist: line 1: bad line
 INPUT(=)
-~with n 3 netlist: line 1: bad line
 INPUT()
-~with n 3 netlist: line 1: bad line
 LATCH(\u{e9})
 ~# a CR is a byte of its line but where it ends it
 ~with n 3 netlist: line 1: bad line
@@ -85,23 +77,17 @@ INPUT(a)\r\r
 
 last
 ~# a name is judged before the kind, and the kind before the count
-~with n 3 netlist: line 1: bad name
+~each n 3 netlist: line 1: bad name
 INPUT(\x7f)
-~with n 3 netlist: line 1: bad name
 a\r = AND(b)
-~with n 3 netlist: line 1: bad name
 z = MUX(\u{e9})
-~with n 3 netlist: line 1: bad kind
+~each n 3 netlist: line 1: bad kind
 z = MUX(a, b)
-~with n 3 netlist: line 1: bad kind
 z = MUX()
-~with n 3 netlist: line 1: bad kind
 z = \u{e9}(a)
-~with n 3 netlist: line 1: bad count
+~each n 3 netlist: line 1: bad count
 z = AND()
-~with n 3 netlist: line 1: bad count
 z = NOT(a, b)
-~with n 3 netlist: line 1: bad count
 q = DFF()
 ~# the first line counts, and on it the first cause
 ~with n 3 netlist: line 2: second driver a

@@ -13,34 +13,19 @@ total 0 detected 0 untestable 0 aborted 0
 ~# no line, another head, no end, a line after the end
 ~with p 1 denied: proofs line 1
 ~none r
-~with p 1 denied: proofs line 1
+~each p 1 denied: proofs line 1
 proofs 4
-~with p 1 denied: proofs line 1
 proofs 1\x20
-~with p 1 denied: proofs line 2
-proofs 1
-~with p 1 denied: proofs line 3
-proofs 1
-end
+~with p 1 denied: proofs line 2 < FORMAT_1
+~with p 1 denied: proofs line 3 < FORMAT_1 END
 
 ~# numbers
-~with p 1 denied: proofs line 2
-proofs 1
+~each p 1 denied: proofs line 2 < FORMAT_1
 entry 0 untestable
-~with p 1 denied: proofs line 2
-proofs 1
 entry 01 untestable
-~with p 1 denied: proofs line 2
-proofs 1
 entry +1 untestable
-~with p 1 denied: proofs line 2
-proofs 1
 entry 4294967296 untestable
-~with p 1 denied: proofs line 2
-proofs 1
 entry  1 untestable
-~with p 1 denied: proofs line 2
-proofs 1
 entry 1 detected
 ~# an entry that stands twice, or has no walk; a flip-flop that stands twice; a variable of number 0
 ~with p 1 denied: proofs line 4
@@ -48,116 +33,75 @@ proofs 1
 entry 4294967295 untestable
 walk
 entry 4294967295 untestable
-~with p 1 denied: proofs line 3
+~text UNTESTABLE
 proofs 1
 entry 1 untestable
-end
-~with p 1 denied: proofs line 4
-proofs 1
-entry 1 untestable
+~with p 1 denied: proofs line 3 < UNTESTABLE END
+~with p 1 denied: proofs line 4 < UNTESTABLE
 z 1
 z 1
-~with p 1 denied: proofs line 4
-proofs 1
-entry 1 untestable
+~with p 1 denied: proofs line 4 < UNTESTABLE
 walk
 hi 0
 ~# a decision with no frame, of another bit, of a variable that doesn't rise
-~with p 1 denied: proofs line 3
+~text ABORTED
 proofs 1
 entry 1 aborted
+~with p 1 denied: proofs line 3 < ABORTED
 set 1 1
-~with p 1 denied: proofs line 4
-proofs 1
-entry 1 aborted
+~with p 1 denied: proofs line 4 < ABORTED
 frame state 1
 set 1 2
-~with p 1 denied: proofs line 5
-proofs 1
-entry 1 aborted
+~with p 1 denied: proofs line 5 < ABORTED
 frame state 1
 set 2 0
 set 2 1
 ~# no sweep, a sweep of no walk, one that begins with 2 frames, and an aim after it
-~with p 1 denied: proofs line 3
-proofs 1
-entry 1 aborted
+~with p 1 denied: proofs line 3 < ABORTED END
+~each p 1 denied: proofs line 4 < ABORTED SWEEP
 end
-~with p 1 denied: proofs line 4
-proofs 1
-entry 1 aborted
-sweep
-end
-~with p 1 denied: proofs line 4
-proofs 1
-entry 1 aborted
-sweep
 length 2
-~with p 1 denied: proofs line 5
-proofs 1
-entry 1 aborted
-sweep
+~with p 1 denied: proofs line 5 < ABORTED SWEEP
 length 1
 back open
 ~# vectors of two widths, a vector back after one ahead, and another character
-~with p 1 denied: proofs line 5
-proofs 1
-entry 1 aborted
+~with p 1 denied: proofs line 5 < ABORTED
 attempt
 justify 10
 ahead 1
-~with p 1 denied: proofs line 5
-proofs 1
-entry 1 aborted
+~with p 1 denied: proofs line 5 < ABORTED
 attempt
 ahead 1
 justify 1
-~with p 1 denied: proofs line 4
-proofs 1
-entry 1 aborted
+~with p 1 denied: proofs line 4 < ABORTED
 attempt
 justify 1x
 ~# an entry from a state in the first format, and states that are none
-~with p 1 denied: proofs line 2
-proofs 1
+~with p 1 denied: proofs line 2 < FORMAT_1
 entry 1 untestable from 01
-~with p 1 denied: proofs line 2
-proofs 2
+~each p 1 denied: proofs line 2 < FORMAT_2
 entry 1 untestable from\x20
-~with p 1 denied: proofs line 2
-proofs 2
 entry 1 untestable from -
-~with p 1 denied: proofs line 2
-proofs 2
 entry 1 aborted from 01
 ~text FROM_01
 proofs 2
 entry 1 untestable from 01
 ~# before the first clause nothing else comes
-~with p 1 denied: proofs line 3 < FROM_01
+~each p 1 denied: proofs line 3 < FROM_01
 walk
-~with p 1 denied: proofs line 3 < FROM_01
 z 1
-~with p 1 denied: proofs line 3 < FROM_01
 dead
-~with p 1 denied: proofs line 3 < FROM_01
 end
 ~# clauses of other literals, of the same flip-flop twice, of flip-flops that fall
-~with p 1 denied: proofs line 3 < FROM_01
+~each p 1 denied: proofs line 3 < FROM_01
 clause 0 1
-~with p 1 denied: proofs line 3 < FROM_01
 clause 1 2
-~with p 1 denied: proofs line 3 < FROM_01
 clause 1 0 2
-~with p 1 denied: proofs line 3 < FROM_01
 clause 1 0 1 1
-~with p 1 denied: proofs line 3 < FROM_01
 clause 2 0 1 1
-~with p 1 denied: proofs line 3 < FROM_01
 clause 1 0 2 1 3 0
 ~# a clause or a token after a flip-flop, a flip-flop after the walk, and no walk
-~text CLAUSE
-clause 1 0
+~line CLAUSE clause 1 0
 ~with p 1 denied: proofs line 5 < FROM_01 CLAUSE
 z 1
 clause 2 0
@@ -175,63 +119,43 @@ proofs 2
 entry 1 untestable
 clause 1 0
 ~# sets and cubes in the second format
-~with p 1 denied: proofs line 2
-proofs 2
+~each p 1 denied: proofs line 2 < FORMAT_2
 entry 1 undetectable by sets
-~with p 1 denied: proofs line 2
-proofs 2
 entry 1 undetectable by cubes
 ~# pairs out of order, twice, none; a flip-flop twice
 ~text BY_SETS
 proofs 3
 entry 1 undetectable by sets
-~with p 1 denied: proofs line 3 < BY_SETS
+~each p 1 denied: proofs line 3 < BY_SETS
 pairs 1 XX X1
-~with p 1 denied: proofs line 3 < BY_SETS
 pairs 1 X1 X1
-~with p 1 denied: proofs line 3 < BY_SETS
 pairs 1
-~with p 1 denied: proofs line 3 < BY_SETS
 pairs 1 X1\x20
 ~with p 1 denied: proofs line 4 < BY_SETS
 pairs 2 XX
 pairs 2 XX
 ~# no cube, and one after a step; cubes of no rail, of half a rail, and of words and numbers that are none
-~text BY_CUBES
-proofs 3
-entry 1 undetectable by cubes
-~with p 1 denied: proofs line 3 < BY_CUBES
+~each p 1 denied: proofs line 3 < BY_CUBES
 end
-~with p 1 denied: proofs line 3 < BY_CUBES
 step by 1
 ~with p 1 denied: proofs line 5 < BY_CUBES
 never good 1 0
 step by 1
 never good 1 0
-~with p 1 denied: proofs line 3 < BY_CUBES
+~each p 1 denied: proofs line 3 < BY_CUBES
 never
-~with p 1 denied: proofs line 3 < BY_CUBES
 never good 1
-~with p 1 denied: proofs line 3 < BY_CUBES
 never bad 1 0
-~with p 1 denied: proofs line 3 < BY_CUBES
 never good 0 0
-~with p 1 denied: proofs line 3 < BY_CUBES
 never good 1 2
-~with p 1 denied: proofs line 3 < BY_CUBES
 never good 1 0\x20
 ~# steps without hints, and of numbers that are none
-~text CUBE
-never faulty 4294967295 1 good 1 0
-~with p 1 denied: proofs line 4 < BY_CUBES CUBE
+~line CUBE never faulty 4294967295 1 good 1 0
+~each p 1 denied: proofs line 4 < BY_CUBES CUBE
 step 1
-~with p 1 denied: proofs line 4 < BY_CUBES CUBE
 step 1 by
-~with p 1 denied: proofs line 4 < BY_CUBES CUBE
 step -0 by 1
-~with p 1 denied: proofs line 4 < BY_CUBES CUBE
 step 4294967296 by 1
-~with p 1 denied: proofs line 4 < BY_CUBES CUBE
 step by -1
 ~# the 33rd clause is one too many
 ~run report n t p r
@@ -248,13 +172,7 @@ clause 2 0
 ";
 
 /// Entries that pass or not, each of one fault; the others are undetected.
-pub const PASSING: &str = "~text BY_CUBES
-proofs 3
-entry 1 undetectable by cubes
-~text OF_3
-proofs 2
-entry 3 untestable
-~text HI_1
+pub const PASSING: &str = "~text HI_1
 walk
 hi 1
 ~text DEAD
@@ -266,29 +184,22 @@ end
 ~run report n t p r
 ~given n < HIDDEN
 ~given t
-~given p < OF_3
-~with p 0 total 8 detected 0 untestable 1 aborted 0 undetected 7
-z 2
-walk
-dead
-end
+~given p < FORMAT_2 OF_3
+~line Z_2 z 2
+~line Z_3 z 3
+~with p 0 total 8 detected 0 untestable 1 aborted 0 undetected 7 < Z_2 DEAD
 ~with p 1 denied: fault 3 < DEAD
-~with p 1 denied: fault 3
-z 2
-z 3
-walk
-dead
-end
+~with p 1 denied: fault 3 < Z_2 Z_3 DEAD
 ~# the output is the same and the next state isn't: the fault shows one frame later
 ~run report n t p r
 ~given n < TOGGLE
 ~given t
-~with p 1 denied: fault 3 < OF_3 DEAD
+~with p 1 denied: fault 3 < FORMAT_2 OF_3 DEAD
 ~# There is one variable. It has two values, of which either may come first, and is decided once.
 ~run report n t p r
 ~given n < ALWAYS_ZERO
 ~given t
-~given p < OF_3
+~given p < FORMAT_2 OF_3
 ~with p 0 total 6 detected 0 untestable 1 aborted 0 undetected 5
 walk
 lo 1
@@ -335,13 +246,8 @@ dead
 end
 ~# The searches of the toggle's faults fill a budget of 10. The walks weigh more than 9, and leave room for a token of
   11.
-~text FORWARD_OPEN
-forward open
-~text NO_TOKEN
-walk
-~text NEXT_STATE
-frame state 1
-set 1 1
+~line FORWARD_OPEN forward open
+~line NO_TOKEN walk
 ~run report n t p r --budget 10
 ~given n < TOGGLE
 ~given t
@@ -355,7 +261,7 @@ set 1 1
 ~with p 1 denied: fault 1 < FORMAT_2 OF_1_ABORTED OUTPUT_1_IS_1 FORWARD_OPEN SWEEP LENGTHS_1_TO_4 END
 ~with p 1 denied: fault 1 < FORMAT_2 OF_1_ABORTED OUTPUT_1_IS_1 NO_TOKEN BACK_TO_1 SWEEP LENGTHS_1_TO_4 END
 ~# a frame comes after an output
-~with p 1 denied: fault 1 < FORMAT_2 OF_1_ABORTED OUTPUT_1_IS_1 NEXT_STATE BACK_TO_1 SWEEP LENGTHS_1_TO_4 END
+~with p 1 denied: fault 1 < FORMAT_2 OF_1_ABORTED OUTPUT_1_IS_1 STATE_1 IS_1 BACK_TO_1 SWEEP LENGTHS_1_TO_4 END
 ~run report n t p r --budget 9
 ~given n < TOGGLE
 ~given t
@@ -368,8 +274,7 @@ set 1 1
 ~run report n t p r --budget 1
 ~given n < WIRES
 ~given t
-~text OF_2_ABORTED
-entry 2 aborted
+~line OF_2_ABORTED entry 2 aborted
 ~with p 0 total 4 detected 0 untestable 0 aborted 1 undetected 3 < FORMAT_2 OF_2_ABORTED ONE_TOKEN SWEEP_OF_ONE
 ~with p 1 denied: fault 2 < FORMAT_2 OF_2_ABORTED SWEEP_OF_ONE
 ~run report n t p r --budget 2
@@ -382,8 +287,7 @@ entry 2 aborted
 ~given n < CHANGE
 ~given t
 ~given p < FORMAT_2 OF_1_ABORTED SPOILED
-~text JUSTIFY_0
-justify 0
+~line JUSTIFY_0 justify 0
 ~with p 0 total 10 detected 0 untestable 0 aborted 1 undetected 9 < JUSTIFY_1 SWEEP_OF_2
 ~with p 0 total 10 detected 0 untestable 0 aborted 1 undetected 9 < JUSTIFY_1 JUSTIFY_1 SWEEP_OF_2
 ~with p 1 denied: fault 1 < JUSTIFY_0 SWEEP_OF_2
@@ -394,27 +298,21 @@ justify 0
 ~given n < TWINS
 ~given t
 ~with p 0 total 14 detected 0 untestable 1 aborted 0 undetected 13 < FORMAT_2 FROM_00 Q_WITH_P P_WITH_Q EQUAL END
-~text FROM_11
-entry 3 untestable from 11
+~line FROM_11 entry 3 untestable from 11
 ~with p 0 total 14 detected 0 untestable 1 aborted 0 undetected 13 < FORMAT_2 FROM_11 Q_WITH_P P_WITH_Q EQUAL END
-~text FROM_01
-entry 3 untestable from 01
+~line FROM_01 entry 3 untestable from 01
 ~with p 1 denied: fault 3 < FORMAT_2 FROM_01 Q_WITH_P P_WITH_Q EQUAL END
-~text FROM_0
-entry 3 untestable from 0
+~line FROM_0 entry 3 untestable from 0
 ~with p 1 denied: fault 3 < FORMAT_2 FROM_0 Q_WITH_P P_WITH_Q EQUAL END
 ~with p 1 denied: fault 3 < FORMAT_2 FROM_00 Q_WITH_P EQUAL END
-~text FORMAT_1
-proofs 1
 ~with p 1 denied: proofs line 2 < FORMAT_1 FROM_00 Q_WITH_P P_WITH_Q EQUAL END
 ~# the start excludes the state
 ~run report n t p r --start s
 ~given n < TWINS
 ~given t
 ~given p < FORMAT_2 FROM_00 Q_WITH_P P_WITH_Q EQUAL END
-~with s 1 denied: fault 3
+~each s 1 denied: fault 3
 11
-~with s 1 denied: fault 3
 X1
 ~with s 0 total 14 detected 0 untestable 1 aborted 0 undetected 13
 0x

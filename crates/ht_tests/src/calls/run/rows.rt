@@ -5,16 +5,18 @@
 //!
 //! | Words | What they say |
 //! |---|---|
-//! | `text NAME` | a text has this name from here on |
+//! | `text NAME` | this text has this name from here on |
+//! | `line NAME LINE` | this line has this name from here on |
 //! | `run WORDS` | a row begins: these words, and a desk without files |
 //! | `given FILE` | the file is there with this text; said again, it goes on with this one |
 //! | `times N FILE` | the file goes on with this text so many times; `%` is the number of the time, from 1, and `^` the one after |
 //! | `most N` | one read gives so many bytes at the most |
-//! | `ends STATUS LINE` | the run ends with this status and leaves this line, or where none is said this text, on Out where the status is 0 and else on Err; the other has none |
+//! | `ends STATUS LINE` | the run ends with this status and leaves this line, or where none is said this text, on Out where the status is 0 and else on Err; the other has none. A status above 0 stays where the line on Err fails, which isn't written again |
+//! | `once STATUS LINE` | so it ends, in one run |
 //! | `with FILE STATUS LINE` | so it ends where the file goes on with this text |
+//! | `each FILE STATUS LINE` | so it ends where the file goes on with the texts of the names and one of these lines, with each of them |
 //! | `words STATUS FILE` | with each line after the first as its words it ends with this status, and the file has the first one somewhere |
-//! | `mute STATUS` | the run ends with this status also where the line on Err fails, and doesn't write it again |
-//! | `fails` | of each line, which is explained at `fails_so`, also where the line on Err fails |
+//! | `fails` | of each line, which is explained at `line_fails_so`, also where the line on Err fails |
 //! | `left FILE`, `none FILE`, `has FILE` | after the last run the file has this text, isn't there, or has this text somewhere; Out is `out` and Err `err` |
 //! | `# ..` | a remark |
 
@@ -41,14 +43,15 @@ struct Paragraph<'a> {
 /// The row that is played, and the texts that have names.
 #[derive(Drop)]
 struct Row<'a> {
+    alloc: Global,
     words: &'a str,
     /// What is laid on the desk before a run.
     given: Vec<Paragraph<'a>>,
-    named: Vec<(&'a str, &'a str)>,
+    named: Vec<(&'a str, String)>,
 }
 
-/// A run of a row: its words, a file that goes on with a text, the call of the desk that fails, and whether the line on
-/// Err does. None is a file or a call without a name.
+/// A run of a row: its words, a file that goes on with a text, the call of the desk that fails, whether the line on Err
+/// does, and whether it stays at this run. None is a file or a call without a name.
 #[derive(Clone, Copy)]
 struct Play<'a> {
     words: &'a str,
@@ -56,6 +59,7 @@ struct Play<'a> {
     text: &'a str,
     fails: &'a str,
     is_mute: bool,
+    is_once: bool,
 }
 
 // A run of these words over what the row says.
@@ -66,6 +70,7 @@ fn play_of(words: &str) -> Play<'_> {
         text: "",
         fails: "",
         is_mute: false,
+        is_once: false,
     }
 }
 
@@ -86,18 +91,18 @@ fn first_word(words: &str) -> (&str, &str) {
 }
 
 // The text of this name. A row that misses one isn't to hold, so it then reads as a line that says so.
-fn find<'a>(named: &[(&'a str, &'a str)], name: &str) -> &'a str {
+fn find<'a>(named: &'a [(&str, String)], name: &str) -> &'a str {
     for (own, text) in named {
         if *own == name {
-            return text;
+            return text.as_str();
         }
     }
     "no text has this name\n"
 }
 
 // The text of a paragraph.
-fn text_of(alloc: Global, row: &Row<'_>, paragraph: Paragraph<'_>) -> Result<String, AllocError> {
-    let mut text = String::new(alloc);
+fn text_of(row: &Row<'_>, paragraph: Paragraph<'_>) -> Result<String, AllocError> {
+    let mut text = String::new(row.alloc);
     for name in paragraph.names.split_whitespace() {
         text.push_str(find(&row.named, name))?;
     }
@@ -196,14 +201,9 @@ fn repeated(alloc: Global, count: u32, text: &str) -> Result<String, AllocError>
 }
 
 // Lays on the desk what a paragraph says.
-fn lay(
-    alloc: Global,
-    desk: &mut MemoryDesk,
-    row: &Row<'_>,
-    paragraph: Paragraph<'_>,
-) -> Result<(), AllocError> {
+fn lay(desk: &mut MemoryDesk, row: &Row<'_>, paragraph: Paragraph<'_>) -> Result<(), AllocError> {
     let (verb, words) = first_word(paragraph.words);
-    let own = text_of(alloc, row, paragraph)?;
+    let own = text_of(row, paragraph)?;
     match verb {
         "most" => {
             desk.pieces(words.parse::<usize>().unwrap_or(1).max(1));
@@ -212,26 +212,21 @@ fn lay(
         "times" => {
             let (count, file) = first_word(words);
             let count = count.parse::<u32>().unwrap_or(0);
-            let whole = repeated(alloc, count, own.as_str())?;
-            put_after(alloc, desk, file, whole.as_str())
+            let whole = repeated(row.alloc, count, own.as_str())?;
+            put_after(row.alloc, desk, file, whole.as_str())
         },
-        _ => put_after(alloc, desk, words, own.as_str()),
+        _ => put_after(row.alloc, desk, words, own.as_str()),
     }
 }
 
 // Lays all that a row and a run of it say on a new desk.
-fn prepare(
-    alloc: Global,
-    desk: &mut MemoryDesk,
-    row: &Row<'_>,
-    play: Play<'_>,
-) -> Result<(), AllocError> {
-    *desk = MemoryDesk::new(alloc);
+fn prepare(desk: &mut MemoryDesk, row: &Row<'_>, play: Play<'_>) -> Result<(), AllocError> {
+    *desk = MemoryDesk::new(row.alloc);
     for paragraph in &row.given {
-        lay(alloc, desk, row, *paragraph)?;
+        lay(desk, row, *paragraph)?;
     }
     if !play.file.is_empty() {
-        put_after(alloc, desk, play.file, play.text)?;
+        put_after(row.alloc, desk, play.file, play.text)?;
     }
     if play.is_mute {
         desk.fail(Fail::Write {
@@ -246,35 +241,29 @@ fn prepare(
 }
 
 // The status of a run, which leaves its desk.
-fn run_on(
-    alloc: Global,
-    desk: &mut MemoryDesk,
-    row: &Row<'_>,
-    play: Play<'_>,
-) -> Result<u8, AllocError> {
-    prepare(alloc, desk, row, play)?;
-    status_of(alloc, desk, play.words)
+fn run_on(desk: &mut MemoryDesk, row: &Row<'_>, play: Play<'_>) -> Result<u8, AllocError> {
+    prepare(desk, row, play)?;
+    status_of(row.alloc, desk, play.words)
 }
 
 // Whether a run has this status.
 fn has_status(
-    alloc: Global,
     desk: &mut MemoryDesk,
     row: &Row<'_>,
     play: Play<'_>,
     status: &str,
 ) -> Result<bool, AllocError> {
-    Ok(status.parse::<u8>() == Ok(run_on(alloc, desk, row, play)?))
+    Ok(status.parse::<u8>() == Ok(run_on(desk, row, play)?))
 }
 
 // Whether a run has this status where the line on Err fails, which isn't written again.
-fn is_mute(alloc: Global, row: &Row<'_>, play: Play<'_>, status: &str) -> Result<bool, AllocError> {
-    let mut desk = MemoryDesk::new(alloc);
+fn is_mute(row: &Row<'_>, play: Play<'_>, status: &str) -> Result<bool, AllocError> {
+    let mut desk = MemoryDesk::new(row.alloc);
     let mute = Play {
         is_mute: true,
         ..play
     };
-    Ok(has_status(alloc, &mut desk, row, mute, status)? && desk.err().is_empty())
+    Ok(has_status(&mut desk, row, mute, status)? && desk.err().is_empty())
 }
 
 // Whether a text is this line, or where none is said this other text.
@@ -296,7 +285,6 @@ fn says(desk: &MemoryDesk, status: &str, line: &str, other: &str) -> bool {
 
 // Whether a run ends with this status, and says this line, or where none is said this text.
 fn ends(
-    alloc: Global,
     desk: &mut MemoryDesk,
     row: &Row<'_>,
     play: Play<'_>,
@@ -304,12 +292,12 @@ fn ends(
     other: &str,
 ) -> Result<bool, AllocError> {
     let (status, line) = first_word(words);
-    Ok(has_status(alloc, desk, row, play, status)? && says(desk, status, line, other))
+    let is_said = has_status(desk, row, play, status)? && says(desk, status, line, other);
+    Ok(is_said && (status == "0" || play.is_once || is_mute(row, play, status)?))
 }
 
 // Whether the words in each line after the first give this status, and the file has the first line somewhere.
 fn words_end(
-    alloc: Global,
     desk: &mut MemoryDesk,
     row: &Row<'_>,
     words: &str,
@@ -318,9 +306,7 @@ fn words_end(
     let (status, file) = first_word(words);
     let (part, list) = own.split_once('\n').unwrap_or((own, ""));
     for words in list.lines() {
-        if !has_status(alloc, desk, row, play_of(words), status)?
-            || !is_left(desk, "has", file, part)
-        {
+        if !has_status(desk, row, play_of(words), status)? || !is_left(desk, "has", file, part) {
             return Ok(false);
         }
     }
@@ -401,34 +387,45 @@ fn line_at(status: &str) -> &'static [u8] {
     }
 }
 
-// Whether a run of which a call fails leaves what a line says: the call and its number, the status, and how many lines
-// of the tests, the report, the proofs and Out are left, of those that the last run left.
+// Whether a run of which this call fails has this status, and leaves so many lines of the tests, the report, the proofs
+// and Out, of those that the last run left.
 fn fails_so(
-    alloc: Global,
     desk: &mut MemoryDesk,
-    row: &Row<'_>,
     whole: &MemoryDesk,
-    line: &str,
+    row: &Row<'_>,
+    wanted: &str,
+    fails: &str,
 ) -> Result<bool, AllocError> {
-    let (fails, wanted) = line.split_once('|').unwrap_or((line, ""));
     let (status, lines) = first_word(wanted);
     let play = Play {
         fails,
         ..play_of(row.words)
     };
-    let is_so = has_status(alloc, desk, row, play, status)? && is_mute(alloc, row, play, status)?;
+    let is_so = has_status(desk, row, play, status)? && is_mute(row, play, status)?;
     Ok(is_so && are_fronts(desk, whole, lines) && desk.err() == line_at(status))
 }
 
-fn fail_so(
-    alloc: Global,
+// Whether each call that a line names fails as it says: the status, how many lines are left of each file, and after a
+// colon the calls with their numbers.
+fn line_fails_so(
     desk: &mut MemoryDesk,
+    whole: &MemoryDesk,
     row: &Row<'_>,
-    lines: &str,
+    line: &str,
 ) -> Result<bool, AllocError> {
-    let whole = replace(desk, MemoryDesk::new(alloc));
+    let (wanted, calls) = line.split_once(": ").unwrap_or((line, ""));
+    for fails in calls.split(", ") {
+        if !fails_so(desk, whole, row, wanted, fails)? {
+            return Ok(false);
+        }
+    }
+    Ok(true)
+}
+
+fn fail_so(desk: &mut MemoryDesk, row: &Row<'_>, lines: &str) -> Result<bool, AllocError> {
+    let whole = replace(desk, MemoryDesk::new(row.alloc));
     for line in lines.lines() {
-        if !fails_so(alloc, desk, row, &whole, line)? {
+        if !line_fails_so(desk, &whole, row, line)? {
             return Ok(false);
         }
     }
@@ -437,67 +434,87 @@ fn fail_so(
 
 // Whether what a paragraph says of a row holds.
 fn holds(
-    alloc: Global,
     desk: &mut MemoryDesk,
     row: &Row<'_>,
     paragraph: Paragraph<'_>,
 ) -> Result<bool, AllocError> {
     let (verb, words) = first_word(paragraph.words);
-    let own = text_of(alloc, row, paragraph)?;
+    let own = text_of(row, paragraph)?;
     let own = own.as_str();
     match verb {
-        "ends" => ends(alloc, desk, row, play_of(row.words), words, own),
-        "with" => {
+        "ends" => ends(desk, row, play_of(row.words), words, own),
+        "once" => {
+            let play = Play {
+                is_once: true,
+                ..play_of(row.words)
+            };
+            ends(desk, row, play, words, own)
+        },
+        "with" | "each" => {
             let (file, words) = first_word(words);
             let play = Play {
-                words: row.words,
                 file,
                 text: own,
-                fails: "",
-                is_mute: false,
+                ..play_of(row.words)
             };
-            ends(alloc, desk, row, play, words, "")
+            ends(desk, row, play, words, "")
         },
-        "mute" => is_mute(alloc, row, play_of(row.words), words),
-        "words" => words_end(alloc, desk, row, words, own),
-        "fails" => fail_so(alloc, desk, row, own),
+        "words" => words_end(desk, row, words, own),
+        "fails" => fail_so(desk, row, own),
         _ => Ok(is_left(desk, verb, words, own)),
     }
 }
 
-// Plays a paragraph, and says whether it holds.
-fn take<'a>(
-    alloc: Global,
+// Whether it holds of each line of the paragraph alone.
+fn each_holds(
     desk: &mut MemoryDesk,
-    row: &mut Row<'a>,
-    text: &'a str,
+    row: &Row<'_>,
+    paragraph: Paragraph<'_>,
 ) -> Result<bool, AllocError> {
+    for lines in paragraph.lines.split_inclusive('\n') {
+        if !holds(desk, row, Paragraph { lines, ..paragraph })? {
+            return Ok(false);
+        }
+    }
+    Ok(true)
+}
+
+// Plays a paragraph, and says whether it holds.
+fn take<'a>(desk: &mut MemoryDesk, row: &mut Row<'a>, text: &'a str) -> Result<bool, AllocError> {
     let Some(paragraph) = paragraph_of(text) else {
         return Ok(text.is_empty());
     };
     let (verb, words) = first_word(paragraph.words);
     match verb {
         "#" => {},
-        "text" => row.named.push((words, paragraph.lines))?,
+        "text" => {
+            let own = text_of(row, paragraph)?;
+            row.named.push((words, own))?;
+        },
+        "line" => {
+            let (name, line) = first_word(words);
+            let own = format!(in row.alloc; "{line}\n")?;
+            row.named.push((name, own))?;
+        },
         "run" => {
             row.words = words;
-            row.given = Vec::new(alloc);
+            row.given = Vec::new(row.alloc);
         },
         "given" | "times" | "most" => row.given.push(paragraph)?,
-        _ => return holds(alloc, desk, row, paragraph),
+        "each" => return each_holds(desk, row, paragraph),
+        _ => return holds(desk, row, paragraph),
     }
     Ok(true)
 }
 
 // The first paragraph that doesn't hold, if one doesn't.
 fn play_all<'a>(
-    alloc: Global,
     desk: &mut MemoryDesk,
     row: &mut Row<'a>,
     rows: &'a str,
 ) -> Result<Option<&'a str>, AllocError> {
     for text in rows.split('~') {
-        if !take(alloc, desk, row, text)? {
+        if !take(desk, row, text)? {
             return Ok(Some(text));
         }
     }
@@ -508,10 +525,11 @@ fn play_all<'a>(
 pub fn first_wrong<'a>(alloc: Global, rows: &'a str) -> Result<Option<&'a str>, AllocError> {
     let mut desk = MemoryDesk::new(alloc);
     let mut row = Row {
+        alloc,
         words: "",
         given: Vec::new(alloc),
         named: Vec::new(alloc),
     };
-    let _ = play_all(alloc, &mut desk, &mut row, SAMPLES)?;
-    play_all(alloc, &mut desk, &mut row, rows)
+    let _ = play_all(&mut desk, &mut row, SAMPLES)?;
+    play_all(&mut desk, &mut row, rows)
 }

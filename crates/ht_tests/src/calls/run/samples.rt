@@ -1,7 +1,8 @@
 //! Circuits that several texts of rows name, and what is known of them.
 
 /// Paragraphs of texts with names.
-pub const SAMPLES: &str = "~# Two flip-flops between an input and an output.
+pub const SAMPLES: &str = "~line OLD_TESTS old tests
+~# Two flip-flops between an input and an output.
 ~text SHIFT_REGISTER
 INPUT(a)
 OUTPUT(r)
@@ -22,6 +23,14 @@ total 6 detected 3
 OUTPUT(q)
 q = DFF(n)
 n = NOT(q)
+~# Parts of its reports from 0 on: the vectors are empty lines, and the second shows three faults.
+~text TOGGLE_1_TO_3
+1 q s-a-0 detected 2 q
+2 q s-a-1 detected 1 q
+3 n s-a-0 detected 2 q
+~text TOGGLE_5_AND_6
+5 n(1) s-a-0 as 4
+6 n(1) s-a-1 as 3
 ~# The flip-flops stand behind the output, which shows the input.
 ~text HIDDEN
 INPUT(a)
@@ -35,14 +44,12 @@ OUTPUT(z)
 n = NOT(a)
 z = AND(a, n)
 ~# The report of `gen` for it, with two vectors, in parts.
-~text ZERO_HEAD
-circuit inputs 1 outputs 1 flip-flops 0 gates 2 faults 10 classes 6 budget 1000
+~line ZERO_HEAD circuit inputs 1 outputs 1 flip-flops 0 gates 2 faults 10 classes 6 budget 1000
 ~text ZERO_2_TO_4
 1 a s-a-0 untestable
 2 a s-a-1 untestable
 3 n s-a-0 untestable
-~text ZERO_5
-4 n s-a-1 detected 1 z
+~line ZERO_5 4 n s-a-1 detected 1 z
 ~text ZERO_6_TO_11
 5 z s-a-0 as 3
 6 z s-a-1 detected 1 z
@@ -50,43 +57,34 @@ circuit inputs 1 outputs 1 flip-flops 0 gates 2 faults 10 classes 6 budget 1000
 8 n(1) s-a-1 as 3
 9 z(1) s-a-0 as 3
 10 z(1) s-a-1 detected 2 z
-~text ZERO_TOTAL
-total 6 detected 3 untestable 3 aborted 0
+~line ZERO_TOTAL total 6 detected 3 untestable 3 aborted 0
 ~# Its proofs, in parts.
-~text FORMAT_2
-proofs 2
-~text ZERO_1_AND_2
-entry 1 untestable
+~line FORMAT_1 proofs 1
+~line FORMAT_2 proofs 2
+~line FORMAT_3 proofs 3
+~text ZERO_WALK
 walk
 hi 1
 dead
 dead
-entry 2 untestable
-walk
-hi 1
-dead
-dead
-~text ZERO_3
-entry 3 untestable
-walk
-hi 1
-dead
-dead
-~text END
-end
-~# Two flip-flops with one data net: x is 1 in no frame but the first.
-~text TWINS
+~line OF_1 entry 1 untestable
+~line OF_2 entry 2 untestable
+~text ZERO_1_AND_2 < OF_1 ZERO_WALK OF_2 ZERO_WALK
+~line OF_3 entry 3 untestable
+~text ZERO_3 < OF_3 ZERO_WALK
+~line END end
+~text INPUTS_A_B
 INPUT(a)
 INPUT(b)
+~# Two flip-flops with one data net: x is 1 in no frame but the first.
+~text TWINS < INPUTS_A_B
 OUTPUT(z)
 p = DFF(a)
 q = DFF(a)
 x = XOR(p, q)
 z = AND(x, b)
 ~# Two inputs that are outputs.
-~text WIRES
-INPUT(a)
-INPUT(b)
+~text WIRES < INPUTS_A_B
 OUTPUT(a)
 OUTPUT(b)
 ~# The output is 1 where the input changes.
@@ -96,9 +94,7 @@ OUTPUT(z)
 p = DFF(a)
 z = XOR(p, a)
 ~# The first input is an output too, so its stem and its pin at the gate are two lines.
-~text AND_GATE
-INPUT(a)
-INPUT(b)
+~text AND_GATE < INPUTS_A_B
 OUTPUT(a)
 OUTPUT(z)
 z = AND(a, b)
@@ -147,58 +143,33 @@ G12 = NOR(G1, G7)
 G13 = NOR(G2, G12)
 ~# Parts of aborted entries of the toggle, whose latch stays unknown: the search back to 1 and to 0, each with ten
   tokens, and the sweep with the lengths 1 to 4.
-~text OF_1_ABORTED
-entry 1 aborted
-~text OF_3_ABORTED
-entry 3 aborted
-~text OUTPUT_1_IS_1
-frame output 1
-set 1 1
-~text OUTPUT_1_IS_0
-frame output 1
-set 1 0
-~text STATE_IS_0
-frame state 1
-set 1 0
-frame output 1
-set 1 1
-set 2 0
-~text STATE_IS_1
-frame state 1
-set 1 1
-frame output 1
-set 1 1
-set 2 0
-~text BACK_TO_1
-back open
+~line OF_1_ABORTED entry 1 aborted
+~line OF_3_ABORTED entry 3 aborted
+~line OUTPUT_1 frame output 1
+~line STATE_1 frame state 1
+~line IS_0 set 1 0
+~line IS_1 set 1 1
+~line THEN_0 set 2 0
+~text OUTPUT_1_IS_0 < OUTPUT_1 IS_0
+~text OUTPUT_1_IS_1 < OUTPUT_1 IS_1
+~text STATE_IS_0 < STATE_1 IS_0 OUTPUT_1_IS_1 THEN_0
+~text STATE_IS_1 < STATE_1 IS_1 OUTPUT_1_IS_1 THEN_0
+~line BACK back open
+~text BEFORE
 x 1
 before
+~text DEAD_BEFORE
 x 1
 dead
 before
-x 1
-before
-x 1
-dead
-before
-~text BACK_TO_0
-back open
-x 1
-dead
-before
-x 1
-before
-x 1
-dead
-before
-x 1
-before
-~text SWEEP
-sweep
-~text LENGTHS_1_TO_4
+~text BACK_TO_1 < BACK BEFORE DEAD_BEFORE BEFORE DEAD_BEFORE
+~text BACK_TO_0 < BACK DEAD_BEFORE BEFORE DEAD_BEFORE BEFORE
+~line SWEEP sweep
+~text LENGTH_1
 length 1
 dead
 length 2
+~text LENGTHS_1_TO_4 < LENGTH_1
 dead
 length 3
 dead
@@ -221,19 +192,13 @@ frame output 1
 set 1 1
 set 2 1
 attempt
-~text JUSTIFY_1
-justify 1
-~text SWEEP_OF_2
-sweep
-length 1
-dead
-length 2
+~line JUSTIFY_1 justify 1
+~text SWEEP_OF_2 < SWEEP LENGTH_1
 hi 1
 hi 2
 end
 ~# Parts of the entry of the twins: where p is 1, q is; where q is 1, p is; and there is no difference then.
-~text FROM_00
-entry 3 untestable from 00
+~line FROM_00 entry 3 untestable from 00
 ~text Q_WITH_P
 clause 1 0 2 1
 hi 1
@@ -253,4 +218,8 @@ dead
 hi 4
 dead
 dead
+~# The first lines of proofs with one entry by cubes.
+~text BY_CUBES
+proofs 3
+entry 1 undetectable by cubes
 ";

@@ -193,15 +193,11 @@ x
 INPUT(=)
 ";
 
-pub const STARTED: &str = "~text TOGGLE_FROM_0
-circuit inputs 0 outputs 1 flip-flops 1 gates 1 faults 6 classes 4
-1 q s-a-0 detected 2 q
-2 q s-a-1 detected 1 q
-3 n s-a-0 detected 2 q
-4 n s-a-1 undetected
-5 n(1) s-a-0 as 4
-6 n(1) s-a-1 as 3
-total 4 detected 3
+pub const STARTED: &str =
+    "~line HEAD circuit inputs 0 outputs 1 flip-flops 1 gates 1 faults 6 classes 4
+~line FAULT_4 4 n s-a-1 undetected
+~line TOTAL total 4 detected 3
+~text TOGGLE_FROM_0 < HEAD TOGGLE_1_TO_3 FAULT_4 TOGGLE_5_AND_6 TOTAL
 ~# detections are from the start
 ~run sim n t r --start s
 ~given n < TOGGLE
@@ -213,9 +209,8 @@ total 4 detected 3
 ~left r < TOGGLE_FROM_0
 ~with s 0 total 4 detected 3
 0\r~left r < TOGGLE_FROM_0
-~with s 0 total 4 detected 0
+~each s 0 total 4 detected 0
 x
-~with s 0 total 4 detected 0
 X\r
 ~# without one all four classes are undetected
 ~run sim n t r
@@ -236,13 +231,11 @@ X\r
 ~given n < TOGGLE
 ~given t
 0
-~with s 8 start: line 1
+~each s 8 start: line 1
 2
-~none r
-~with s 8 start: line 1
 01
-~with s 8 start: line 1
 -
+~none r
 ~with s 8 start: line 1
 ~with s 8 start: line 1
 
