@@ -10,10 +10,10 @@ mod proofs_text;
 mod reports;
 mod row;
 
+use crate::answer::numbered;
 use crate::entries::passes::{passes, written};
 use crate::entries::proofs_text::proofs_row;
 use crate::entries::reports::report_row;
-use ht_tree::MAX_BUDGET;
 use std::alloc::Global;
 
 // Puts an answer at the front of a row; its length, or the greatest number where there is none or no room.
@@ -76,11 +76,5 @@ pub extern "C" fn ht_entries_passes(
     budget: u64,
     numbers: &[u64],
 ) -> u8 {
-    if budget > MAX_BUDGET {
-        return 2;
-    }
-    match passes(alloc, netlist, fault, budget, numbers) {
-        Some(passed) => u8::from(passed),
-        None => 2,
-    }
+    numbered(passes(alloc, netlist, fault, budget, numbers))
 }

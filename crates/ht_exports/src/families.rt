@@ -4,6 +4,7 @@
 ghost use Rattle.std.specs.Prelude.{◌≡◌, length, IfOk, IfSome};
 ghost use Rattle.ht_net.specs.Detection.{IsStart};
 
+use crate::answer::numbered;
 use crate::netlist::read_circuit;
 use ht_families::{closes, closing};
 use ht_faults::list;
@@ -106,14 +107,6 @@ fn count(alloc: Global, netlist: &[u8]) -> Option<u64> {
         }
     }
     Some(closed)
-}
-
-// An answer as a number: 2 where there is none.
-fn numbered(answer: Option<bool>) -> u8 {
-    match answer {
-        Some(answer) => u8::from(answer),
-        None => 2,
-    }
 }
 
 /// Whether a family closes for a fault, by its number from 0, and a start; the least one is put into the sets. It is 2

@@ -1,7 +1,4 @@
 //! Entries from rows of numbers, judged and written.
-ghost use Rattle.std.specs.Prelude.{◌≤◌};
-ghost use Rattle.ht_tree.specs.declared.limits.TheConstants.{MAX_BUDGET};
-
 use crate::entries::row::{Row, take_entry};
 use crate::netlist::read_circuit;
 use ht_check::entry;
@@ -12,16 +9,17 @@ use ht_tree::MAX_BUDGET;
 use std::alloc::{AllocError, Global};
 
 /// Whether the entry of a row passes from all-unknown for a fault of a netlist, by its number from 0; none where the
-/// netlist is refused, there is no such fault or entry, or memory ran out.
+/// netlist is refused, the budget is too great, there is no such fault or entry, or memory ran out.
 pub fn passes(
     alloc: Global,
     netlist: &[u8],
     fault: u32,
     budget: u64,
     numbers: &[u64],
-) -> Option<bool>
-    requires { budget ≤ MAX_BUDGET }
-{
+) -> Option<bool> {
+    if budget > MAX_BUDGET {
+        return None;
+    }
     let circuit = read_circuit(alloc, netlist)?;
     let faults = list(alloc, &circuit).ok()?;
     if fault >= faults.len() {
