@@ -12,6 +12,7 @@ use Rattle.ht_app.specs.Acts.{written_by, named_by, written_after, named_after, 
 
 -- ---- ports
 
+-- ports that the test finds the same are the same
 pub is_that_port : (p port : OutPort) → is_port p port ≡ true → p ≡ port
 is_that_port Tests Tests is = refl
 is_that_port Report Report is = refl
@@ -27,6 +28,7 @@ is_itself Proofs = refl
 is_itself Out = refl
 is_itself Err = refl
 
+-- ports that the test finds different are different
 pub is_no_port : (p port : OutPort) → is_port p port ≡ false → p ≢ port
 is_no_port p port not same =
     let both : true ≡ false = sym (is_itself p) ∙ ap (is_port p) same ∙ not in cc
@@ -58,6 +60,7 @@ either_made true false was = refl
 either_made false true was = refl
 either_made false false was = refl
 
+-- acts that were done after others were done together with them
 pub did_then : {xs ys : List Act} {a m b : DeskView} → Did xs a m → Did ys m b → Did (xs ++ ys) a b
 did_then {xs = xs} {ys = ys} {a = a} x y = record {
   written = λ p. y.written p ∙ ap (written_after p ys) (x.written p) ∙ sym (written_then p xs ys (a.written p));
@@ -75,6 +78,7 @@ did_nothing written named created = record {
   is_created = λ p. ap (λ f. f p) created;
 }
 
+-- a text that was written at a port is an act that was done: to put it there
 pub did_put : {a b : DeskView} (port : OutPort) (text : List ℕ) → Writes port a b
     → b.written port ≡ append_known (a.written port) text → Did (put port text ∷ []) a b
 did_put {a = a} {b = b} port text w added = record {
@@ -85,6 +89,7 @@ did_put {a = a} {b = b} port text w added = record {
   is_created = λ p. ap (λ f. f p) w.is_created;
 }
 
+-- a file that was created at a port is an act that was done: to make it there
 pub did_make : {a b : DeskView} (port : OutPort) (name : List ℕ) → OutCall port a b → Created port name a b
     → Did (make port name ∷ []) a b
 did_make {a = a} {b = b} port name call made = record {
@@ -105,6 +110,7 @@ did_make {a = a} {b = b} port name call made = record {
 
 -- ---- where acts stop
 
+-- acts that stop also stop if more would come after
 pub stops_first : {xs : List Act} {a b : DeskView} (ys : List Act) → Stops xs a b → Stops (xs ++ ys) a b
 stops_first ys s = record {
   whole = s.whole;
@@ -116,6 +122,7 @@ stops_first ys s = record {
   did = s.did;
 }
 
+-- if acts stop after others were done, all of them together stop
 pub stops_then : {xs ys : List Act} {a m b : DeskView} → Did xs a m → Stops ys m b → Stops (xs ++ ys) a b
 stops_then {xs = xs} {a = a} {b = b} did s = record {
   whole = xs ++ s.whole;

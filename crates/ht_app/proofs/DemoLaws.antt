@@ -58,15 +58,18 @@ module _ (size seed : ℕ) where
     circuit = λ some. let none : false ≡ true = some in absurd (cc);
   }
 
+  -- `demo` may end for want of memory before it says anything
   pub ends_unsaid : (a : DeskView) → EndsJob {A = Unit {0}} job (Err NoMemory) a a
   ends_unsaid a = ends_unwritten job (no_change a) NoMemory (inl (did_nothing refl refl refl))
 
   module _ {head : List ℕ} (says : SaysHead size seed (put Out head ∷ [])) {a : DeskView} where
+    -- if the head line stops by an error, `demo` ends by it
     pub ends_in_head : {b : DeskView} (e : RunError) → Tries {A = Unit {0}} (put Out head ∷ []) (Err e) a b
         → EndsJob {A = Unit {0}} job (Err e) a b
     ends_in_head e tries = ends_tries job (no_change a) (inputs a) (put Out head ∷ []) (Err e) tries
         ((refl, λ file. absurd file), tt) tt (inl (says, ((refl, λ file. absurd file), tt)))
 
+    -- once the head line is said, `demo` ends as the total line does
     pub ends_by_total : {total : List ℕ} {m b : DeskView} (result : Result (Unit {0}) RunError)
         → IsTotalOf (demo_netlist size seed) (demo_settings (demo_netlist size seed) seed) total → Does
         (put Out head ∷ []) (Ok tt) a m

@@ -44,6 +44,7 @@ module _ (files : RunFiles) (c : net.Netlist) (settings : Settings) {representat
     acts_are = refl;
   }
 
+  -- if the acts up to the last step stop by an error, so do the files
   pub stops_in_steps : {e : RunError} {a b : DeskView} → Tries {A = Unit {0}} (begun_acts files settings steps) (Err e) a b
       → WritesAll files c settings (Err e) a b
   stops_in_steps tries =
@@ -62,6 +63,7 @@ module _ (files : RunFiles) (c : net.Netlist) (settings : Settings) {representat
       generated = generated;
     }
 
+    -- once all steps are written, the files end as the end line, the report and the total line do
     pub ends_after : {a m b : DeskView} (result : Result (Unit {0}) RunError)
         → Tries {A = Unit {0}} (begun_acts files settings steps) (Ok tt) a m → Does (end_part body total) result m b
         → WritesAll files c settings result a b
@@ -85,6 +87,7 @@ pub of_circuit : (P : net.Netlist → List ℕ → Type 0) (e : EngineView) {c :
     → e.circuit ≡ c → e.representatives ≡ representatives → P e.circuit e.representatives → P c representatives
 of_circuit P e {c = c} of_c of_r p = subst (λ r. P c r) of_r (subst (λ d. P d e.representatives) of_c p)
 
+-- if the counted bytes of the proofs with their end line fit a text, the whole proofs do
 pub fits : (settings : Settings) (steps : List Step) {old new : ℕ} → old ≡ length (proofs_so_far settings steps)
     → new ≡ old + length end_text → new ≤ max_text_bytes → length (proofs_of settings steps) ≤ max_text_bytes
 fits settings steps count more short = omega (
@@ -103,6 +106,7 @@ Reports c representatives e body total = (steps : List Step) → EngineStandsFor
     → length (tests_of steps) ≤ max_text_bytes → length (proofs_of e.settings steps) ≤ max_text_bytes
     → IsGenerated c e.settings (tests_of steps) (body ++ total) (proofs_of e.settings steps) total
 
+-- the files of a finished engine's steps and its report are generated, by the circuit that it began with
 pub generated : {c : net.Netlist} {representatives : List ℕ} {old new : EngineView} {steps : List Step}
     (body total : List ℕ) → old.circuit ≡ c → old.representatives ≡ representatives → HasSameWork old new
     → EngineStandsFor new steps → AreFinished old.circuit old.representatives old.settings steps → HasPlainNames c
@@ -166,6 +170,7 @@ module _ (netlist tests report proofs : List ℕ) (options : GenOptions) where
       (subst (λ (l : List Act). PermitsAll (writing job) l (end_part w.body w.total)) (sym w.begun.acts_are)
       ((refl, λ file. refl), ((refl, λ file. refl), ((refl, λ file. absurd file), ((refl, λ file. refl), tt))))))
 
+  -- `gen` ends as its files do, once its inputs are accepted
   pub ends_files : {basis : JobBasis} {a m b : DeskView} → ChangedOnly (reading job) a m → AcceptsInputs job basis a
       → (result : Result (Unit {0}) RunError)
       → WritesAll files basis.circuit (settings_of basis options) result m b
@@ -181,6 +186,7 @@ module _ (netlist tests report proofs : List ℕ) (options : GenOptions) where
     | inr whole ↦ ends_tries job x inputs w.acts (Err e) w.tries (files_may whole.1) tt (inr whole)
   ]
 
+  -- `gen` reads no file after the list of faults
   pub no_more : (p : InPort) → 6 ≤ order_of job p → input_name job p ≡ None
   no_more in_port.Netlist late = absurd (omega (arith, late))
   no_more in_port.Extra late = absurd (omega (arith, late))
@@ -203,6 +209,7 @@ abbrev pub numbers_of : Option (List ℕ) → List ℕ
 numbers_of (Some numbers) = numbers
 numbers_of None = []
 
+-- numbers that are there exactly if a list of faults is named are what that list says
 pub given_numbers : (numbers name : Option (List ℕ)) → is_some numbers ≡ is_some name
     → numbers ≡ option_map (λ _. numbers_of numbers) name
 given_numbers (Some numbers) (Some name) is = refl

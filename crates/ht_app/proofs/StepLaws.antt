@@ -20,14 +20,17 @@ use Rattle.ht_app.proofs.WritingLaws.{runs_out_first, tries_none, tries_then}
 
 -- ---- where the text of a step goes
 
+-- the text of a step that gives a list is put in the tests
 pub list_acts : {step : Step} {list : Rows} {text : List ℕ} → step ≡ Vectors list → text ≡ step_text step
     → put Tests text ∷ [] ≡ step_acts step
 list_acts is e = ap (λ t. put Tests t ∷ []) (e ∙ ap step_text is) ∙ sym (ap step_acts is)
 
+-- the text of a step that gives an entry is put in the proofs
 pub entry_acts : {step : Step} {fault : ℕ} {entry : recorded.Entry} {text : List ℕ} → step ≡ Entry fault entry
     → text ≡ step_text step → put Proofs text ∷ [] ≡ step_acts step
 entry_acts is e = ap (λ t. put Proofs t ∷ []) (e ∙ ap step_text is) ∙ sym (ap step_acts is)
 
+-- if the size of the tests grows by the text of a list and stays a text's, it counts the step
 pub counts_list : {step : Step} {list : Rows} {text : List ℕ} (old : Sizes) (new : TextSize) → step ≡ Vectors list
     → text ≡ step_text step → new.bytes ≡ old.tests.bytes + length text → new.bytes ≤ max_text_bytes
     → CountsStep step old (record old { tests = new })
@@ -37,6 +40,7 @@ counts_list old new is e counts short = record {
   short = λ before. short;
 }
 
+-- if the size of the proofs grows by the text of an entry, it counts the step
 pub counts_entry : {step : Step} {fault : ℕ} {entry : recorded.Entry} {text : List ℕ} (old : Sizes) (new : TextSize)
     → step ≡ Entry fault entry → text ≡ step_text step → new.bytes ≡ old.proofs.bytes + length text
     → CountsStep step old (record old { proofs = new })
@@ -46,6 +50,7 @@ counts_entry old new is e counts = record {
   short = λ before. before;
 }
 
+-- the end adds nothing to the sizes
 pub counts_nothing : {step : Step} (sizes : Sizes) → step ≡ Finished → CountsStep step sizes sizes
 counts_nothing sizes is = record {
   tests = omega (arith, ap (λ s. length (tests_step s)) is);
@@ -55,9 +60,11 @@ counts_nothing sizes is = record {
 
 -- ---- the work stays
 
+-- an engine works on the same as itself
 pub same_work : (e : EngineView) → HasSameWork e e
 same_work e = record { circuit = refl; representatives = refl; settings = refl }
 
+-- if two changes leave what an engine works on as it was, both together do
 pub same_work_trans : {a b c : EngineView} → HasSameWork a b → HasSameWork b c → HasSameWork a c
 same_work_trans x y = record {
   circuit = y.circuit ∙ x.circuit;
@@ -72,12 +79,14 @@ same_as P old new same p = subst (λ c. P c old.representatives old.settings) sa
     (subst (λ r. P new.circuit r old.settings) same.representatives
     (subst (λ s. P new.circuit new.representatives s) same.settings p))
 
+-- steps that are finished are finished for an engine that works on the same
 pub finished_later : {old new : EngineView} {steps : List Step} → HasSameWork old new
     → AreFinished old.circuit old.representatives old.settings steps
     → AreFinished new.circuit new.representatives new.settings steps
 finished_later {old = old} {new = new} {steps = steps} same = same_as (λ c r s. AreFinished c r s steps) new old
     (record { circuit = sym same.circuit; representatives = sym same.representatives; settings = sym same.settings })
 
+-- a step that an engine made, but the end, may come next, and the engine stands for the steps with it
 pub makes_step : {old new : EngineView} {steps : List Step} (step : Step) → step ≢ Finished → Makes old new steps step
     → MakesStep old new steps step
 makes_step Finished other made = absurd (other refl)
@@ -102,12 +111,14 @@ nothing_more {steps = steps} {e = e} {later = later} {sizes = sizes} {result = r
       finished = λ end. subst (AreFinished e.circuit e.representatives e.settings) same (finished end);
     }
 
+-- if memory runs out before the end, no step more is written
 pub runs_out : {A : Type 0} {steps : List Step} {AtEnd : Type 0} {e : EngineView} {before : Sizes} (later : EngineView)
     (sizes : Sizes) (a : DeskView) → StandsAt steps e before → (AtEnd → ⊥)
     → WritesOn {A = A} steps AtEnd e later sizes (Err NoMemory) a a
 runs_out {A} later sizes a stands never =
     nothing_more stands.engine.are (runs_out_first A [] a) tt (λ end. absurd (never end))
 
+-- at the end no step more is written, and the steps are all
 pub all_made : {steps : List Step} {old new : EngineView} {step : Step} {sizes : Sizes} (a : DeskView) (End : Type 0)
     → step ≡ Finished → StandsAt steps old sizes → HasSameWork old new
     → Makes old new steps step → WritesOn steps End old new sizes (Ok false) a a
@@ -143,6 +154,7 @@ module _ {A : Type 0} {steps : List Step} {old new : EngineView} {step : Step} {
   }
   stands_later (Err error) counts = tt
 
+  -- a step that was made and counted, and whose text was tried to be put, is one step more that is written
   pub made_one : {AtEnd : Type 0} {a b : DeskView} (result : Result A RunError) → Tries (step_acts step) result a b
       → OnOk result (CountsStep step before after) → (AtEnd → ⊥) → WritesOn steps AtEnd old new after result a b
   made_one {a = a} {b = b} result tries counts never = record {
@@ -155,6 +167,7 @@ module _ {A : Type 0} {steps : List Step} {old new : EngineView} {step : Step} {
 
 -- ---- steps after steps
 
+-- steps that are written on after others are written on together with them
 pub writes_then : {A B : Type 0} {steps : List Step} {e l new : EngineView} {between after : Sizes} {E : Type 0}
     (F : Type 0) {r : Result A RunError} (s : Result B RunError) {a m b : DeskView} → HasSameWork e l
     → (first : WritesOn {A = Unit {0}} steps ⊥ e l between (Ok tt) a m)

@@ -30,11 +30,13 @@ begun_listed : (job : Asked) (basis : JobBasis) (acts : List Act) → BeginsOutp
 begun_listed (respond netlist tests out number start) basis acts begun = absurd begun
 begun_listed job basis acts begun = tt
 
+-- if the fault that a job names isn't the circuit's, no output is made
 pub unlisted_done : (job : Asked) (a : DeskView) (basis : JobBasis) (acts : List Act) → HasNoSuchFault job a
     → AcceptsInputs job basis a → ¬ MakesOutput job basis acts
 unlisted_done job a basis acts lacks accepts made =
     unlisted_accepts job a lacks basis (accepts.each Netlist) (made_listed job basis acts made)
 
+-- if the fault that a job names isn't the circuit's, its error has status 12, 4 (read fault) or 6 (no memory)
 pub unlisted_status : (job : Asked) (a b : DeskView) (e : RunError) → HasCause job a b e → HasNoSuchFault job a
     → (exit_status e ≡ 12) ⊎ (exit_status e ≡ 4) ⊎ (exit_status e ≡ 6)
 unlisted_status job a b WriteFault h lacks = absurd (unlisted_accepts job a lacks h.basis (h.inputs.each Netlist)

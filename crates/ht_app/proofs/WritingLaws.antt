@@ -30,6 +30,7 @@ permits_rest ports before [] ys all = subst (λ (l : List Act). PermitsAll ports
 permits_rest ports before (x ∷ xs) ys all = subst (λ (l : List Act). PermitsAll ports l ys)
     (append_assoc before (x ∷ []) xs) (permits_rest ports (before ++ x ∷ []) xs ys all.1)
 
+-- acts that keep to the ports, and others that do so after them, keep to them together
 pub permits_then : (ports : Ports) (before xs ys : List Act) → PermitsAll ports before xs
     → PermitsAll ports (before ++ xs) ys → PermitsAll ports before (xs ++ ys)
 permits_then ports before [] ys first rest = subst (λ (l : List Act). PermitsAll ports l ys) (append-nil before) rest
@@ -43,6 +44,7 @@ or_none : (f : Bool) → (f || (false || false)) ≡ true → f ≡ true
 or_none true is = refl
 or_none false is = cc
 
+-- a write that fails after a change counts as one that fails from before the change
 pub fault_since : {ports : Ports} {a m b : DeskView} → ChangedOnly ports a m → IsWriteFault m b → IsWriteFault a b
 fault_since x fault = record {
   rose = omega (arith, x.after.out_faults, fault.rose);
@@ -83,6 +85,7 @@ module _ {ports : Ports} {before : List Act} {a m b : DeskView} (port : OutPort)
   changed_by_put text permits w = changed_trans h.changed
       (changed_by_writing ports port m b permits.0 (λ n other file. file_named port n h (permits.1 file) other) w)
 
+  -- with a text that may be put at a port, the acts written so far are one more
   pub has_put : (text : List ℕ) → PermitsAll ports before (put port text ∷ []) → Writes port m b
       → b.written port ≡ append_known (m.written port) text → HasWritten ports (before ++ put port text ∷ []) a b
   has_put text permits w added = record {
@@ -92,6 +95,7 @@ module _ {ports : Ports} {before : List Act} {a m b : DeskView} (port : OutPort)
     named = named_kept b h (put port text) (λ p. refl) w.named;
   }
 
+  -- with a file that may be made at a port, the acts written so far are one more
   pub has_made : (name : List ℕ) → PermitsAll ports before (make port name ∷ []) → OutCall port m b
       → Created port name m b → HasWritten ports (before ++ make port name ∷ []) a b
   has_made name permits call made = record {
@@ -120,6 +124,7 @@ module _ {ports : Ports} {before : List Act} {a m b : DeskView} (port : OutPort)
 
   -- ---- a failed write
 
+  -- a text that is put only in part stops the acts at it by a failed write
   pub put_stops : (text : List ℕ) → PermitsAll ports before (put port text ∷ []) → Writes port m b
       → AddedPart port text m b → StopsBy ports (before ++ put port text ∷ []) a b WriteFault
   put_stops text permits w part = (
@@ -136,6 +141,7 @@ module _ {ports : Ports} {before : List Act} {a m b : DeskView} (port : OutPort)
     changed_by_put text permits.0 w,
   )
 
+  -- a file that isn't created stops the acts at it by a failed write
   pub make_stops : (name : List ℕ) → OutCall port m b → NotCreated port m b
       → StopsBy ports (before ++ make port name ∷ []) a b WriteFault
   make_stops name call failed = (
@@ -154,6 +160,7 @@ module _ {ports : Ports} {before : List Act} {a m b : DeskView} (port : OutPort)
 
 -- ---- steps after steps
 
+-- acts that are tried after others were done are tried together with them
 pub tries_then : {A B : Type 0} {xs ys : List Act} {value : A} {result : Result B RunError} {a m b : DeskView}
     → Tries xs (Ok value) a m → Tries ys result m b → Tries (xs ++ ys) result a b
 tries_then {xs = xs} {ys = ys} {result = result} {b = b} first second = record {
@@ -189,9 +196,11 @@ pub runs_out_last : {A : Type 0} (B : Type 0) {acts : List Act} {value : A} {a b
 runs_out_last B {acts = acts} {a = a} {b = b} first =
     subst (λ (l : List Act). Tries {A = B} l (Err NoMemory) a b) (append-nil acts) (tries_in_part B [] first)
 
+-- memory may run out before the first of some acts
 pub runs_out_first : (B : Type 0) (acts : List Act) (a : DeskView) → Tries {A = B} acts (Err NoMemory) a a
 runs_out_first B acts a = tries_in_part B acts (tries_none {value = tt {0}} {a = a})
 
+-- acts that take no memory, after others like them that were done, are one run of acts that takes none
 pub does_then : {xs ys : List Act} {result : Result (Unit {0}) RunError} {a m b : DeskView} → Does xs (Ok tt) a m
     → Does ys result m b → Does (xs ++ ys) result a b
 does_then first second = record { tries = tries_then first.tries second.tries; only = second.only }
@@ -215,6 +224,7 @@ does_in_part {xs = xs} ys {b = b} first = record {
 
 -- ---- from the beginning
 
+-- before the first act nothing is written
 pub nothing_written : (ports : Ports) (a : DeskView) → HasWritten ports [] a a
 nothing_written ports a = record {
   permitted = tt;
@@ -230,6 +240,7 @@ nothing_written ports a = record {
   named = λ p made. let none : false ≡ true = made in absurd (cc);
 }
 
+-- acts that are tried first, and keep to the ports, were all done or stopped for a cause
 pub begins : {A : Type 0} {acts : List Act} {result : Result A RunError} {a b : DeskView} (ports : Ports)
     → Tries acts result a b → PermitsAll ports [] acts → EndsWriting ports acts result a b
 begins {a = a} ports tries permits = tries.ends ports [] a (nothing_written ports a) permits

@@ -67,6 +67,7 @@ module _ (ws : List (String Global)) (first : String Global) (is : Some first �
   abbrev Defines : Option App → Option Command → Type 0
   Defines app found = app ≡ option_map (λ (c : Command). app_with c.name c.form) found
 
+  -- words of which the first names no command ask for nothing
   pub undefined_words : Defines None (command_named word) → asked (words_of ws) ≡ None
   undefined_words defined = go (command_named word) refl defined
     where
@@ -74,6 +75,7 @@ module _ (ws : List (String Global)) (first : String Global) (is : Some first �
       go None e d = not_named ws first is (ap command_named (sym word_is) ∙ e)
       go (Some c) e d = cc
 
+  -- words that `clap` refuses ask for nothing
   pub refused_words : (app : App) → Defines (Some app) (command_named word) → is_taken app (words_of ws) ≡ false
       → asked (words_of ws) ≡ None
   refused_words app defined refuses = go (command_named word) refl defined
@@ -85,6 +87,7 @@ module _ (ws : List (String Global)) (first : String Global) (is : Some first �
           let same : app ≡ app_with c.name c.form = cc in
           named ws first is c (ap command_named (sym word_is) ∙ e) ∙ refused c app (words_of ws) same refuses
 
+  -- words that `clap` takes ask for what the command that the first one names makes of its rows
   pub answered_words : (app : App) (rows : List Row) → Defines (Some app) (command_named word)
       → rows ≡ matches_of app (words_of ws) → is_taken app (words_of ws) ≡ true
       → asked (words_of ws) ≡ option_and_then (λ c. asked_in_rows c rows) (command_named word)
@@ -99,6 +102,7 @@ module _ (ws : List (String Global)) (first : String Global) (is : Some first �
           ∙ answered c app (words_of ws) same rows rows_are taken
           ∙ ap (option_and_then (λ (d : Command). asked_in_rows d rows)) (sym e)
 
+-- an empty command line asks for nothing
 pub no_words : (ws : List (String Global)) → None ≡ slice_get ws 0 → asked (words_of ws) ≡ None
 unfolding asked
 no_words [] e = refl

@@ -134,6 +134,7 @@ no_short y (p ∷ ps) = ap
     (λ b. cond b (Some (word p)) (find (λ a. not (is_some a.index) && has_short a y) (map word ps)))
     (and-false (not (is_some p.index))) ∙ no_short y ps
 
+-- the rules of a form whose positionals can be numbered have these by index, options by name, and no short names
 pub is_model : (form : Form) → length form.positionals < usize_max
     → IsModel (rules_of form) (arguments form.positionals form.options)
 is_model form few = record {

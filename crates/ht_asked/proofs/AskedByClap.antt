@@ -26,6 +26,7 @@ same_found f g same test (c ∷ cs) sound = go (test c) (same_found f g same tes
     go true e = same c sound.0
     go false e = e
 
+-- the words ask for the same in plain steps and by `clap`
 pub asked_is_by_clap : (ws : List (String Global)) → asked (words_of ws) ≡ asked_by_clap (words_of ws)
 unfolding asked asked_by_clap
 asked_is_by_clap [] = refl

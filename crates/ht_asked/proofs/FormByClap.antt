@@ -19,6 +19,7 @@ pub record IsSound (form : Form) : Type 0 where
   pub differ : all_differ (form.positionals ++ form.options) ≡ true
   pub few : length form.positionals < usize_max
 
+-- what `clap` gives to a sound form from readable words is what the plain reading gives
 pub form_by_clap : (command : Text) (form : Form) → IsSound form → (name : Text) (words : List Text)
     → AreReadable words → given_by_clap (app_with command form) form (name ∷ words) ≡ given form words
 unfolding given

@@ -86,6 +86,7 @@ module _ (positionals options : List Text) where
   abbrev told : List Text → List (Option Text) → Given
   told texts values = record { positionals = texts; options = values }
 
+  -- the uses of the parts give to a form of different names what the parts give
   pub given_is : (ps : List Part) → all_differ (positionals ++ options) ≡ true
       → option_and_then given_uses (place (arguments positionals options) 1 [] ps) ≡ given_by form ps
   given_is ps differ =

@@ -17,13 +17,16 @@ use Rattle.ht_asked.proofs.Settle.{held_at, answer, passes, fails, settles, fini
 use Rattle.ht_asked.proofs.Word.{turn_end, walk_end, turn_plain, walk_plain, turn_flags, bundle_refused}
 use Rattle.ht_asked.proofs.Positional.{next, Goes, none_goes, stays, goes, and_then_none}
 
+-- `--` looks like the end of the options
 pub looks_end : (x : Text) → bytes_eq x dashes ≡ true → looks false x ≡ look.ends
 looks_end x e = ap (λ b. cond b look.ends (looks_by (long_of x) (short_of x))) e
 
+-- a word with a long name, other than `--`, looks like an option of this name
 pub looks_long : (x : Text) (q : Text × Option Text) → bytes_eq x dashes ≡ false → long_of x ≡ Some q
     → looks false x ≡ look.names q.0 q.1
 looks_long x q e f = ap₂ (λ b l. cond b look.ends (looks_by l (short_of x))) e f
 
+-- a word without a long name, other than `--`, looks like flags if it has a short name, else plain
 pub looks_other : (x : Text) (o : Option Text) → bytes_eq x dashes ≡ false → long_of x ≡ None → short_of x ≡ o
     → looks false x ≡ looks_by None o
 looks_other x o e f g = λ i. cond (e i) look.ends (looks_by (f i) (g i))
@@ -59,6 +62,7 @@ module _ (name : Text) (c : List Rule) where
       ]
     ]
 
+    -- after `--`, the walk answers to a word as the reading does, if it does so to the words after it
     pub idle_ended : (x : Text) (xs : List Text) (us : List Use) (p : Option Use) (k : ℕ) → IsKnownUse c p → Idle xs
         → answer name c (idle_at us p k true) (x ∷ xs)
         ≡ option_and_then (finish name c) (option_and_then (λ u. read args true None k u (x ∷ xs)) (settle p us))
@@ -76,6 +80,7 @@ module _ (name : Text) (c : List Rule) where
         (option_and_then (λ u. read_word args v None false x k u (next name c args x xs us p k false)) (settle p us)))
         (sym e)
 
+    -- the walk answers to `--` as the reading does, if it does so to the words after it
     pub idle_end : (x : Text) (xs : List Text) (us : List Use) (p : Option Use) (k : ℕ) → IsKnownUse c p → Idle xs
         → bytes_eq x dashes ≡ true
         → answer name c (idle_at us p k false) (x ∷ xs)
@@ -85,6 +90,7 @@ module _ (name : Text) (c : List Rule) where
         ∙ ap (λ w. answer name c w xs) (walk_end name c x (held_at name c us p) walk.idle k refl e)
         ∙ later us p k true known ∙ reads x xs us p k look.ends (looks_end x e)
 
+    -- the walk answers to a plain word as the reading does, if it does so to the words after it
     pub idle_plain : (x : Text) (xs : List Text) (us : List Use) (p : Option Use) (k : ℕ) → IsKnownUse c p → Idle xs
         → bytes_eq x dashes ≡ false → long_of x ≡ None → short_of x ≡ None
         → answer name c (idle_at us p k false) (x ∷ xs)
@@ -94,6 +100,7 @@ module _ (name : Text) (c : List Rule) where
         (walk_plain name c x (held_at name c us p) walk.idle k refl e f g)
         ∙ reads x xs us p k look.plain (looks_other x None e f g)
 
+    -- the walk answers to a word such as `-x` as the reading does, whatever comes after it
     pub idle_flags : (x : Text) (xs : List Text) (us : List Use) (p : Option Use) (k : ℕ) → IsReadable x
         → bytes_eq x dashes ≡ false → long_of x ≡ None → (r : Text) → short_of x ≡ Some r
         → answer name c (idle_at us p k false) (x ∷ xs)

@@ -13,6 +13,7 @@ use Rattle.ht_asked.proofs.Option.{Reads, unknown, refused, repeated, taken, lat
 
 module _ (name : Text) (c : List Rule) where
   module _ (args : Arguments) (model : IsModel c args) where
+    -- the walk answers to `--name` and `--name=value` as the reading does, if it does so to the words after it
     pub idle_long : (x : Text) (xs : List Text) (us : List Use) (p : Option Use) (k : ℕ) → IsKnownUse c p
         → Idle name c args model xs
         → Waits name c args model xs

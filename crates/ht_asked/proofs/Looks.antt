@@ -11,6 +11,7 @@ use Rattle.ht_asked.specs.Forms.{is_option}
 abbrev pub dashes : Text
 dashes = 45 ∷ 45 ∷ []
 
+-- true is not false
 pub true_is_false : true ≡ false → ⊥
 true_is_false h = cc
 
@@ -65,6 +66,7 @@ view_of (b ∷ c ∷ cs) e = by_first (b == 45) refl
     by_first false f = is_plain e f (ap long_by f) (ap short_by f)
     by_first true f = by_second f (c == 45) refl cs refl
 
+-- each word is `--`, an option with a long name, a word such as `-x`, or plain
 pub view : (x : Text) → View x
 view x = go (bytes_eq x dashes) refl
   where

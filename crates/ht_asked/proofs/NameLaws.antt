@@ -8,18 +8,22 @@ use Rattle.clap.specs.Walk.{Text}
 use Rattle.ht_asked.specs.Forms.{all_differ, is_among}
 use Rattle.ht_asked.proofs.Looks.{true_is_false}
 
+-- if neither of two tests holds, the first doesn't
 pub left_false : (a b : Bool) → (a || b) ≡ false → a ≡ false
 left_false true b e = absurd (true_is_false e)
 left_false false b e = refl
 
+-- if neither of two tests holds, the second doesn't
 pub right_false : (a b : Bool) → (a || b) ≡ false → b ≡ false
 right_false true b e = absurd (true_is_false e)
 right_false false b e = e
 
+-- if both of two tests hold, the first does
 pub left_true : (a b : Bool) → (a && b) ≡ true → a ≡ true
 left_true true b e = refl
 left_true false b e = absurd (true_is_false (sym e))
 
+-- if both of two tests hold, the second does
 pub right_true : (a b : Bool) → (a && b) ≡ true → b ≡ true
 right_true true b e = e
 right_true false b e = absurd (true_is_false (sym e))
@@ -28,9 +32,11 @@ not_true : (a : Bool) → not a ≡ true → a ≡ false
 not_true true e = absurd (true_is_false (sym e))
 not_true false e = refl
 
+-- a name passes the test against itself
 pub same_name : (x : Text) → bytes_eq x x ≡ true
 same_name x = (bytes_eq-Decides x x).1 refl
 
+-- two names that differ do so in either order
 pub turned : (x y : Text) → bytes_eq x y ≡ false → bytes_eq y x ≡ false
 turned x y e = go (bytes_eq y x) refl
   where
@@ -57,6 +63,7 @@ differs x y names without within = go (bytes_eq x y) refl
         (sym within ∙ ap (λ z. is_among z names) (sym ((bytes_eq-Decides x y).0 e)) ∙ without))
     go false e = e
 
+-- what is found by a name among names is that name, if it is one of them
 pub found : (name : Text) (names : List Text)
     → find (λ n. bytes_eq n name) names ≡ cond (is_among name names) (Some name) None
 found name [] = refl
@@ -76,13 +83,16 @@ found name (n ∷ ns) = go (bytes_eq n name) refl (found name ns)
 pub first_differs : (x : Text) (names : List Text) → all_differ (x ∷ names) ≡ true → is_among x names ≡ false
 first_differs x names e = not_true (is_among x names) (left_true _ (all_differ names) e)
 
+-- names that all differ do so without the first
 pub others_differ : (x : Text) (names : List Text) → all_differ (x ∷ names) ≡ true → all_differ names ≡ true
 others_differ x names e = right_true (not (is_among x names)) _ e
 
+-- a name that isn't among those of two lists isn't in the first
 pub not_in_first : (x : Text) (xs ys : List Text) → is_among x (xs ++ ys) ≡ false → is_among x xs ≡ false
 not_in_first x xs ys e =
     left_false _ (is_among x ys) (sym (list_any-append (λ o. bytes_eq o x) xs ys) ∙ e)
 
+-- a name that isn't among those of two lists isn't in the second
 pub not_in_second : (x : Text) (xs ys : List Text) → is_among x (xs ++ ys) ≡ false → is_among x ys ≡ false
 not_in_second x xs ys e =
     right_false (is_among x xs) _ (sym (list_any-append (λ o. bytes_eq o x) xs ys) ∙ e)

@@ -45,6 +45,7 @@ has_more : (y x v : Text) (us : List Use) → has_use y (us ++ (x, v) ∷ []) �
 has_more y x v us = list_any-append (λ (u : Use). bytes_eq u.0 y) us ((x, v) ∷ [])
     ∙ or_nothing (has_use y us) (bytes_eq x y)
 
+-- names without a use have none after a use of a name that isn't among them
 pub free_more : (x v : Text) (ids : List Text) (us : List Use) → is_among x ids ≡ false → AreFree ids us
     → AreFree ids (us ++ (x, v) ∷ [])
 free_more x v [] us other free = tt
@@ -71,6 +72,7 @@ new_more x v us (o ∷ os) =
     go false true false all among e = absurd (true_is_false e)
     go false false true all among e = absurd (true_is_false (sym e))
 
+-- options are new after the first use of another if, and only if, they are new together with that one
 pub new_option : (x v : Text) (us os : List Use) → has_use x us ≡ false
     → are_new (us ++ (x, v) ∷ []) os ≡ are_new us ((x, v) ∷ os)
 new_option x v us os none =

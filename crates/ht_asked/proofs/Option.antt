@@ -48,6 +48,7 @@ module _ (name : Text) (c : List Rule) where
           ≡ option_and_then (finish name c)
           (option_and_then (λ u. read_option (args.option n) v k u (next name c args x xs us p k false)) (settle p us))
 
+      -- an option that the command lacks is answered as in the reading
       pub unknown : arg_by_long c n ≡ None → args.option n ≡ None → Reads
       unknown is at = fails name c (idle_at us p k false) x xs (ap is_empty (option_turn None is))
           ∙ sym (ap (λ o. option_and_then (finish name c)
@@ -59,6 +60,7 @@ module _ (name : Text) (c : List Rule) where
         (found : arg_by_long c n ≡ Some (word a)) (at : args.option n ≡ Some a.id) where
       -- `--name=value`
       module _ (y : Text) (long : long_of x ≡ Some (n, Some y)) where
+        -- `--name=value` is answered as in the reading where the pending use is refused
         pub refused : settle p us ≡ None → is_empty (settle_fault c false (held_at name c us p)) ≡ false
             → Reads x xs us p k no_end n (Some y) long
         refused none fault =
@@ -86,6 +88,7 @@ module _ (name : Text) (c : List Rule) where
           right = sym (ap₂ (λ o q. option_and_then (finish name c)
               (option_and_then (λ u. read_option o (Some y) k u (next name c args x xs us p k false)) q)) at some)
 
+          -- `--name=value` is answered as in the reading where the option has a use already
           pub repeated : has_use a.id after ≡ true → Reads x xs us p k no_end n (Some y) long
           repeated e = fails name c (idle_at us p k false) x xs
               (ap is_empty (turn_is ∙ ap (λ b. or_else (fault_by b) []) e))
@@ -93,6 +96,7 @@ module _ (name : Text) (c : List Rule) where
               (option_and_then (λ u. read args false None k u xs) (cond b None (Some (after ++ (a.id, y) ∷ [])))))
               (sym e) ∙ right
 
+          -- the first use of an option as `--name=value` is answered as in the reading, if the words after it are so
           pub taken : has_use a.id after ≡ false → Idle name c args model xs → Reads x xs us p k no_end n (Some y) long
           taken e later = passes name c (idle_at us p k false) x xs (turn_is ∙ ap (λ b. or_else (fault_by b) []) e)
               ∙ ap (λ w. answer name c w xs) (option_walk x xs us p k no_end n (Some y) long (Some (word a)) found
@@ -111,6 +115,7 @@ module _ (name : Text) (c : List Rule) where
 
       -- `--name`, whose value comes next
       module _ (long : long_of x ≡ Some (n, None)) where
+        -- `--name` is answered as in the reading where the pending use is refused
         pub late_refused : settle p us ≡ None → is_empty (settle_fault c false (held_at name c us p)) ≡ false
             → Reads x xs us p k no_end n None long
         late_refused none fault =
@@ -120,6 +125,7 @@ module _ (name : Text) (c : List Rule) where
             ∙ sym (ap (λ o. option_and_then (finish name c)
             (option_and_then (λ u. read_option (args.option n) None k u (next name c args x xs us p k false)) o)) none)
 
+        -- `--name`, whose value comes next, is answered as in the reading, if the words after it are so
         pub waits : (after : List Use) → settle p us ≡ Some after → settle_fault c false (held_at name c us p) ≡ []
             → (settled c (held_at name c us p)).rows ≡ rows after → IsKnown c a.id → Waits name c args model xs
             → Reads x xs us p k no_end n None long

@@ -126,6 +126,7 @@ module _ (args : Arguments) where
         ∙ sym (ap (λ b. placed args k uses (waiting_parts b name x xs)) f)
   ]
 
+  -- the words are read as the uses of their parts, whether an option waits for its value or not
   pub reads_parts : (words : List Text) → Idle words × Waits words
   unfolding read parts place
   reads_parts [] = (λ k uses. refl, λ k uses name id is. refl)

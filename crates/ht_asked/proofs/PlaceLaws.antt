@@ -26,6 +26,7 @@ module _ (args : Arguments) where
   none_then None = refl
   none_then (Some u) = refl
 
+  -- a positional is used before the parts after it, which go on at the next index
   pub placed_positional : (k : ℕ) (uses : List Use) (word : Text) (o : Option (List Part))
       → option_and_then (λ u. placed (k + 1) u o) (add_at (args.at k) word uses)
       ≡ placed k uses (with_part (positional word) o)
@@ -33,6 +34,7 @@ module _ (args : Arguments) where
   placed_positional k uses word None = none_then (add_at (args.at k) word uses)
   placed_positional k uses word (Some ps) = refl
 
+  -- an option is used before the parts after it, which go on at the same index
   pub placed_option : (k : ℕ) (uses : List Use) (name value : Text) (o : Option (List Part))
       → option_and_then (λ u. placed k u o) (add_at (args.option name) value uses)
       ≡ placed k uses (with_part (option name value) o)

@@ -12,13 +12,16 @@ use Rattle.ht_asked.proofs.Rows.{Param, word, shape, rows, and_false}
 use Rattle.ht_asked.proofs.States.{held_by, idle_at, settle}
 use Rattle.ht_asked.proofs.Settle.{held_at, answer, passes, fails, finish}
 
+-- uses that are refused in any case come to none
 pub and_then_none : (o : Option (List Use)) → option_and_then {U = List Use} (λ u. None) o ≡ None
 and_then_none None = refl
 and_then_none (Some u) = refl
 
+-- a number that fits `usize` is not reduced to its limit
 pub min_is : (n : ℕ) → n ≤ usize_max → min n usize_max ≡ n
 min_is n fits = omega arith
 
+-- a test, or false, is the test
 pub or_false : (b : Bool) → (b || false) ≡ b
 or_false true = refl
 or_false false = refl
@@ -55,6 +58,7 @@ module _ (name : Text) (c : List Rule) where
         ≡ option_map_or (λ a. positional_fault c false a (held_at name c us p)) (arg_by_index c k) (stray_fault s))
         (step : walked c [] (idle_at us p k t) x ≡ to_positional c (arg_by_index c k) x (idle_at us p k t)
         (held_at name c us p)) where
+      -- a word is answered as in the reading where the command has no positional at its index
       pub none_goes : arg_by_index c k ≡ None → args.at k ≡ None → Goes
       none_goes index at =
           fails name c (idle_at us p k t) x xs
@@ -71,6 +75,7 @@ module _ (name : Text) (c : List Rule) where
           ∙ ap (λ b. cond b [] (settle_fault c false (held_at name c us p)))
           (and_false (is_pending (word a) (held_by p)))
 
+      -- a word is answered as in the reading where the pending use is refused
       pub stays : (a : Param) → arg_by_index c k ≡ Some (word a) → settle p us ≡ None
           → is_empty (settle_fault c false (held_at name c us p)) ≡ false → Goes
       stays a index none fault =
@@ -79,6 +84,7 @@ module _ (name : Text) (c : List Rule) where
           (option_and_then (λ u. read_positional (args.at k) t x k u next) o))
           none)
 
+      -- a word is answered as in the reading where a positional takes it, if the words after it are so
       pub goes : (a : Param) (after : List Use) → arg_by_index c k ≡ Some (word a) → args.at k ≡ Some a.id → k
           + 1 ≤ usize_max → settle p us ≡ Some after
           → settle_fault c false (held_at name c us p) ≡ [] → (settled c (held_at name c us p)).rows ≡ rows after

@@ -159,5 +159,6 @@ unfolding asked
 asked_in_range [] = tt
 asked_in_range (name ∷ words) = by_found (λ c. bytes_eq name c.name) words commands commands_ask_in_range
 
+-- the numbers of the command that words ask for are in their ranges
 pub numbers_are_in_range : (words : List Text) (job : Asked) → asked words ≡ Some job → IsInRange job
 numbers_are_in_range words job is = subst AsksInRange is (asked_in_range words)

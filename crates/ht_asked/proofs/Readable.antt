@@ -45,6 +45,7 @@ is_readable (b ∷ bs) u f e = go (b == 45) refl
     go true g = rest bs (after_hyphen b bs u ((Decides-eqb b 45).0 g))
         (ap (λ t. option_and_then short_of_rest (cond t (Some bs) None)) (sym g) ∙ e)
 
+-- all words of the command line are readable
 pub are_readable : (ws : List (String Global)) → AreReadable (words_of ws)
 are_readable [] = tt
 are_readable (w ∷ ws) = (is_readable (string_bytes w) (IsUtf8-string_bytes w), are_readable ws)

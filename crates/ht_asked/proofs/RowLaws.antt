@@ -102,6 +102,7 @@ whole_map : {X Y : Type 0} (f : X → Y) (missing : Bool) (o : Option X)
 whole_map f true o = refl
 whole_map f false o = refl
 
+-- a step after a value that depends on a test is taken where the test holds
 pub pushed_in : {X Y : Type 0} (f : X → Option Y) (b : Bool) (x : X)
     → option_and_then f (cond b (Some x) None) ≡ cond b (f x) None
 pushed_in f true x = refl
@@ -134,11 +135,13 @@ module _ (form : Form) where
       (all_of (map (λ id. text_of id us) form.positionals))
       ∙ ap (option_map (told us)) (whole (λ id. text_of id us) form.positionals)
 
+  -- the rows at the end of the words give to the form what the uses give
   pub all_ends : (command : Text) (o : Option (List Use))
       → option_and_then given_rows (option_and_then (finish command (rules_of form)) o) ≡ option_and_then given_uses o
   all_ends command None = refl
   all_ends command (Some us) = ends command us
 
+  -- the uses of the parts give to a form of different names what the parts give, if there are parts
   pub all_given : all_differ (form.positionals ++ form.options) ≡ true → (o : Option (List Part))
       → option_and_then given_uses (option_and_then (place (arguments form.positionals form.options) 1 []) o)
       ≡ option_and_then (given_by form) o

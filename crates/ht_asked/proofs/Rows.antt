@@ -47,6 +47,7 @@ row u = record { id = u.0; values = u.1 ∷ []; count = None; source = Some Comm
 abbrev pub rows : List Use → List Row
 rows = map row
 
+-- the rows of uses have one of a name if there is a use of it
 pub has_row-rows : (id : Text) (us : List Use) → has_row id (rows us) ≡ has_use id us
 has_row-rows id [] = refl
 has_row-rows id (u ∷ us) = ap (λ b. bytes_eq u.0 id || b) (has_row-rows id us)
@@ -70,12 +71,14 @@ no_row id change missing (u ∷ us) none =
     (left_false _ (has_use id us) none)
     (no_row id change missing us (right_false (bytes_eq u.0 id) _ none))
 
+-- the first use of an argument adds one row at the end
 pub new_row : (id v : Text) (us : List Use) → has_use id us ≡ false
     → with_values id reading.AsWritten CommandLine (v ∷ []) (without id (rows us)) ≡ rows (us ++ (id, v) ∷ [])
 new_row id v us none =
     ap (with_values id reading.AsWritten CommandLine (v ∷ [])) (no_row id (λ _. []) [] us none ∙ append-nil (rows us))
     ∙ no_row id (more_values CommandLine (v ∷ [])) (row (id, v) ∷ []) us none ∙ sym (map-append row us ((id, v) ∷ []))
 
+-- a test, and false, is false
 pub and_false : (b : Bool) → (b && false) ≡ false
 and_false true = refl
 and_false false = refl
@@ -84,9 +87,11 @@ and_false false = refl
 abbrev pub fault_by : Bool → Kinds
 fault_by used = or_else (cond (used && true) (kind.ArgumentConflict ∷ []) []) []
 
+-- a use with one value is refused if its argument has a row already
 pub use_is : (a : Param) (v : Text) (rs : List Row) → use_fault false (word a) (v ∷ []) rs ≡ fault_by (has_row a.id rs)
 use_is a v rs = refl
 
+-- the first use of an argument gives the rows of the uses with this one
 pub used_is : (a : Param) (v : Text) (us : List Use) → has_use a.id us ≡ false → used (word a) (v ∷ []) (rows us)
     ≡ rows (us ++ (a.id, v) ∷ [])
 used_is a v us none = new_row a.id v us none

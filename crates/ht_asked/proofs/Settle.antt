@@ -28,6 +28,7 @@ module _ (name : Text) (c : List Rule) where
   answer w ws = cond (is_empty (or_else (walk_fault s [] w ws) (end_fault (fold (walked c []) w ws).held)))
       (Some (finished c (fold (walked c []) w ws).held)) None
 
+  -- a word that isn't refused leaves the answer to the words after it
   pub passes : (w : Walk) (x : Text) (xs : List Text) → turn_fault s [] w x ≡ [] → answer w (x ∷ xs)
       ≡ answer (walked c [] w x) xs
   unfolding answer walk_fault
@@ -37,10 +38,12 @@ module _ (name : Text) (c : List Rule) where
       (end_fault (fold (walked c []) (walked c [] w x) xs).held)))
       (Some (finished c (fold (walked c []) (walked c [] w x) xs).held)) None) none
 
+  -- what is refused first leaves no answer, whatever comes later
   pub fails_late : (k later : Kinds) (r : Option (List Row)) → is_empty k ≡ false
       → cond (is_empty (or_else k later)) r None ≡ None
   fails_late k later r e = ap (λ t. cond t r None) (still_refused k later e)
 
+  -- a word that is refused leaves no answer
   pub fails : (w : Walk) (x : Text) (xs : List Text) → is_empty (turn_fault s [] w x) ≡ false → answer w (x ∷ xs) ≡ None
   unfolding answer walk_fault
   fails w x xs e = fails_late (or_else (turn_fault s [] w x) _) _ _ (still_refused (turn_fault s [] w x) _ e)
@@ -62,6 +65,7 @@ module _ (name : Text) (c : List Rule) where
       ⊎ ((after : List Use) × (settle p us ≡ Some after) × (settle_fault c false (held_at us p) ≡ [])
       × ((settled c (held_at us p)).rows ≡ rows after))
 
+  -- a pending use of an argument of the command is refused or joins the others
   pub settles : (p : Option Use) (us : List Use) → IsKnownUse c p → Settles p us
   settles None us known = inr (us, refl, refl, refl)
   settles (Some u) us known = go (has_use u.0 us) refl
@@ -111,6 +115,7 @@ module _ (name : Text) (c : List Rule) where
       (Some (fold with_default rs c)) None) same
       ∙ sym (ap (option_and_then finish) some)
 
+  -- at the end of the words, the answer is what the end makes of the uses with the pending one
   pub ends : (us : List Use) (p : Option Use) (k : ℕ) (t : Bool) → IsKnownUse c p → answer (idle_at us p k t) []
       ≡ option_and_then finish (settle p us)
   ends us p k t known = elim (settles p us known) [

@@ -126,6 +126,7 @@ module _ (positionals options : List Text) where
   unfolding place
   place_none ids k us places free differ = ap Some (sym (append-nil us))
 
+  -- parts add their uses if their options are known and new and there are names enough, and else are refused
   pub place_is : (ps : List Part) → IsPlaced ps
   place_is [] = place_none
   place_is (option name value ∷ ps) = place_option name value ps (place_is ps)

@@ -30,6 +30,7 @@ module _ (name : Text) (c : List Rule) where
       starved : is_empty (settle_fault c false wait_held) ≡ false
       starved = ap (λ o. is_empty (option_map_or (λ a. use_fault false a [] (rows us)) o [])) known.1
 
+      -- an option that waits for its value at the end of the words is refused
       pub starved_end : (t : Bool) → answer name c (waits_at id us k t) [] ≡ None
       unfolding answer walk_fault
       starved_end t = fails_late name c (settle_fault c false wait_held)
@@ -66,6 +67,7 @@ module _ (name : Text) (c : List Rule) where
           by_value (Some y) a = still_refused (settle_fault c false wait_held) _ starved
           by_value None a = starved
 
+      -- an option that waits for its value is refused if a word with a long name comes next
       pub wait_long : (x : Text) (xs : List Text) → bytes_eq x dashes ≡ false → (q : Text × Option Text) → long_of x
           ≡ Some q → answer name c (waits_at id us k false) (x ∷ xs) ≡ None
       wait_long x xs e q long = fails name c (waits_at id us k false) x xs
@@ -73,6 +75,7 @@ module _ (name : Text) (c : List Rule) where
           ∙ still_refused (long_fault c false (arg_by_long c q.0) q.1 wait_held) _
           (long_starves (arg_by_long c q.0) q.1 (args.option q.0) (model.option q.0)))
 
+      -- an option that waits for its value is refused if a word such as `-x` comes next
       pub wait_flags : (x : Text) (xs : List Text) → IsReadable x → bytes_eq x dashes ≡ false → long_of x ≡ None
           → (r : Text) → short_of x ≡ Some r
           → answer name c (waits_at id us k false) (x ∷ xs) ≡ None
@@ -95,6 +98,7 @@ module _ (name : Text) (c : List Rule) where
                 (walk.option id) walk.idle,
           )) same_id
 
+      -- a plain word is the value of the option that waits, if the words after it are answered as in the reading
       pub wait_value : (x : Text) (xs : List Text) → Idle name c args model xs → bytes_eq x dashes ≡ false → long_of x
           ≡ None
           → short_of x ≡ None
@@ -112,6 +116,7 @@ module _ (name : Text) (c : List Rule) where
           }) (value_met x))
           ∙ later us (Some (id, x)) k false known
 
+      -- what the reading makes of a word that an option waits for depends on what the word looks like
       pub wait_reads : (x : Text) (xs : List Text) (l : Looks) → looks false x ≡ l
           → read_word args l (Some id) false x k us (λ e w i u. read args e w i u xs)
           ≡ read args false (Some id) k us (x ∷ xs)

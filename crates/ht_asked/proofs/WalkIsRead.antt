@@ -59,6 +59,7 @@ module _ (name : Text) (c : List Rule) where
     unfolding read
     wait_done id us k known = starved_end name c args model id us k known false
 
+    -- the walk answers to readable words as the reading does, whether an option waits or not
     pub walk_is_read : (ws : List Text) → AreReadable ws → Idle name c args model ws × Waits name c args model ws
     walk_is_read [] readable = (idle_done, wait_done)
     walk_is_read (x ∷ xs) readable =

@@ -36,19 +36,23 @@ module _ (name : Text) (c : List Rule) where
     walk_seen = ap (λ o. walk.after_step c x here (walk.subcommand_or_other c o wt k x h).0
         (walk.subcommand_or_other c o wt k x h).1) met
 
+    -- `--` is not refused
     pub turn_end : bytes_eq x dashes ≡ true → turn_fault s [] here x ≡ []
     turn_end e = turn_seen ∙ ap (λ b. turn_at b (long_of x)) e
 
+    -- `--` ends the options, and the walk is else as it was
     pub walk_end : bytes_eq x dashes ≡ true → walked c [] here x
         ≡ record { held = h; waiting = wt; position = k; is_trailing = true; stopped = None }
     walk_end e = walk_seen ∙ ap (λ b. walk.after_step c x here (met_at b (long_of x)).0 (met_at b (long_of x)).1) e
 
     module _ (no_end : bytes_eq x dashes ≡ false) where
+      -- a word with a long name is refused for its option or for the step that it leads to
       pub turn_long : (q : Text × Option Text) → long_of x ≡ Some q
           → turn_fault s [] here x ≡ or_else (long_fault c false (arg_by_long c q.0) q.1 h)
           (step_fault s k (walk.long_word c wt x q.0 q.1 h).0 (walk.long_word c wt x q.0 q.1 h).1)
       turn_long q long = turn_seen ∙ ap₂ turn_at no_end long
 
+      -- a word with a long name leads to the step of its option
       pub walk_long : (q : Text × Option Text) → long_of x ≡ Some q
           → walked c [] here x ≡ walk.after_step c x here (walk.long_word c wt x q.0 q.1 h).0
           (walk.long_word c wt x q.0 q.1 h).1
@@ -60,11 +64,13 @@ module _ (name : Text) (c : List Rule) where
             (step_fault s k (walk.short_or_plain c wt x (short_of x) h).0 (walk.short_or_plain c wt x (short_of x) h).1)
         turn_other = turn_seen ∙ ap₂ turn_at no_end no_long
 
+        -- a plain word is refused only for the step that it leads to
         pub turn_plain : short_of x ≡ None → turn_fault s [] here x ≡ step_fault s k (walk.plain_word c wt x h).0
             (walk.plain_word c wt x h).1
         turn_plain no_short = turn_other ∙ ap (λ o. or_else (option_map_or (λ flags. bundle_fault c false flags h) o [])
             (step_fault s k (walk.short_or_plain c wt x o h).0 (walk.short_or_plain c wt x o h).1)) no_short
 
+        -- a plain word leads to the step of one
         pub walk_plain : short_of x ≡ None → walked c [] here x ≡ walk.after_step c x here (walk.plain_word c wt x h).0
             (walk.plain_word c wt x h).1
         walk_plain no_short = walk_seen ∙
@@ -72,6 +78,7 @@ module _ (name : Text) (c : List Rule) where
             ∙ ap (λ o. walk.after_step c x here (walk.short_or_plain c wt x o h).0 (walk.short_or_plain c wt x o h).1)
             no_short
 
+        -- a word such as `-x` is refused if its flags are
         pub turn_flags : (f : Text) → short_of x ≡ Some f → is_empty (bundle_fault c false f h) ≡ false
             → is_empty (turn_fault s [] here x) ≡ false
         turn_flags f short refused = ap is_empty turn_other ∙ ap
@@ -90,6 +97,7 @@ module _ (name : Text) (c : List Rule) where
       ∙ ap (λ o. is_empty (short_fault c false o (drop (length (encode_utf8 y)) f) h
       (flags_fault c false k (drop (length (encode_utf8 y)) f) 0))) (no_short y)
 
+  -- flags are refused where no option has a short name
   pub bundle_refused : (no_short : (y : ℕ) → arg_by_short c y ≡ None) (f : Text) (y : ℕ) (h : Held) → h.skip ≡ 0
       → slice_get (chars f) 0 ≡ Some y → is_empty (bundle_fault c false f h) ≡ false
   unfolding chars

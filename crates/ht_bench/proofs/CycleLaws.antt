@@ -76,6 +76,7 @@ module _ (c : Netlist) (is : IsCircuit c) where
     is_driven a at = subst (λ n. first_gate_net c ≤ place_in c.names n) (get_or_default cycle at.0 [] a at.1 ∙ at.2)
         (driven_at at.0 at.1)
 
+    -- the gates of a circuit form no cycle of nets
     pub no_circuit : ⊥
     no_circuit = no_cycle (Feeds (named_of c).gates) rank_at cycle []
         (λ a b at _ feeds. rises a b (pin_of a b feeds) (is_driven a at)) h

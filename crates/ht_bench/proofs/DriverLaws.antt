@@ -27,6 +27,7 @@ module _ (name : Name) where
       let rest = drivers_from (with_statement n s) statements in
       grind (arith, list_any-append)
 
+  -- statements drive a net where it is an input, a flip-flop's net or a gate's net of what they say together
   pub drivers_are : (statements : List Statement) → has_name (net_names (named_of_statements statements)) name
       ≡ has_name (driven_by statements) name
   drivers_are statements = drivers_from no_parts statements

@@ -25,6 +25,7 @@ module _ {text : List ℕ} {d : Draft} (is : IsRead text d) where
   names_are : d.names ≡ stated_nets is.statements
   names_are = ap (λ (x : Draft). x.names) is.draft.is
 
+  -- the netlist of the draft is what the statements of the text say together
   pub says_named : named_draft d ≡ named_of_statements is.statements
   says_named = ap named_draft is.draft.is
 
@@ -36,6 +37,7 @@ module _ {text : List ℕ} {d : Draft} (is : IsRead text d) where
   net_driven : (id : NameId) → IsDriven d id → has_name (driven_by is.statements) (draft_name d id) ≡ true
   net_driven id driven = same_drivers (draft_name d id) ∙ (has_name-Decides (driven_names d) (draft_name d id)).1 driven
 
+  -- a line of the text mentions each net of the draft
   pub net_is_mentioned : (id : NameId) → IsName d id → HasNet text Mentioned (draft_name d id)
   net_is_mentioned id known =
       let all = mentions_of is.statements in
@@ -44,6 +46,7 @@ module _ {text : List ℕ} {d : Draft} (is : IsRead text d) where
       let has = (has_name-Decides all (draft_name d id)).1 (mentioned id.0 [] known) in
       record { statements = is.statements; lines = is.lines; has = has }
 
+  -- a line of the text drives each net that is driven in the draft
   pub net_is_driven : (id : NameId) → IsDriven d id → HasNet text Driven (draft_name d id)
   net_is_driven id driven = record { statements = is.statements; lines = is.lines; has = net_driven id driven }
 
@@ -60,6 +63,7 @@ module _ {text : List ℕ} {d : Draft} (is : IsRead text d) where
       (λ known. not_from_false (drives name) (false_from_ne_true (drives name) (λ yes.
       free known ((has_name-Decides (driven_names d) name).0 (sym (same_drivers name) ∙ yes))))))
 
+  -- a text that was read is accepted if each of its nets is driven
   pub accepted_text : AllDriven d → IsAcceptedText text is.statements
   accepted_text all = record {
     lines = is.lines;
@@ -68,6 +72,7 @@ module _ {text : List ℕ} {d : Draft} (is : IsRead text d) where
         (λ known. absurd (omega arith)) ∙ slice_get_past d.names (length d.names) (omega arith));
   }
 
+  -- a text that was read, each of its nets driven, is the netlist of the circuit that its draft gives by names
   pub netlist_is : (circuit : Netlist) → AllDriven d → IsCircuit circuit → named_of circuit ≡ named_draft d
       → IsNetlistOf text circuit
   netlist_is circuit all is_circuit named = record {
@@ -77,6 +82,7 @@ module _ {text : List ℕ} {d : Draft} (is : IsRead text d) where
     named = named ∙ says_named;
   }
 
+  -- a text is refused for its first net without a driver, at the first line that mentions that net
   pub undriven_is : (id : NameId) → IsLeastUndriven d id → (number : ℕ)
       → IsFirstLine text Mentioned (draft_name d id) number
       → refusal_of text ≡ Some (Undriven number (draft_name d id))

@@ -22,6 +22,7 @@ loop_is_no_netlist text number cycle l circuit is =
     no_circuit circuit is.is_circuit cycle (subst (λ (n : NamedNetlist). IsNameCycle n.gates cycle)
     (ap named_of_statements same ∙ sym is.named) l.is_cycle.is_cycle)
 
+-- a text that is refused for another cause than memory is no circuit's netlist
 pub refused_is_of_no_circuit : (text : List ℕ) (error : BenchError) → Refuses text error → IsOfNoCircuit text error
 refused_is_of_no_circuit text (Loop line names) refused = loop_is_no_netlist text line names refused
 refused_is_of_no_circuit text NoMemory refused = tt
@@ -33,6 +34,7 @@ text_refusal_is : (text : List ℕ) (error : BenchError) (v : Option BenchError)
 text_refusal_is text (Loop line names) v refused e = let none : refusal_of text ≡ None = refused.read.unrefused in cc
 text_refusal_is text _ v refused e = cc
 
+-- two refusals of a text say the same of it, apart from the choice among cycles and from want of memory
 pub one_refusal : (text : List ℕ) (error other : BenchError) (v w : Option BenchError) → Refuses text error
     → Refuses text other → text_refusal_of error ≡ Some v → text_refusal_of other ≡ Some w → v ≡ w
 one_refusal text error other v w refused also e f =

@@ -34,6 +34,7 @@ first_stated : (reading : Reading) (readings : List Reading) (statements : List 
 first_stated reading readings [] e = absurd (cc)
 first_stated reading readings (s ∷ statements) e = (s, statements, refl, cc, cc)
 
+-- before any line is passed, the line that is looked for lies ahead, if the text has one
 pub nothing_before : (text : List ℕ) (role : Role) (name : Name) → HasNet text role name
     → HasLineAhead text text 0 role name
 nothing_before text role name has = record {
@@ -53,6 +54,7 @@ module _ {text rest : List ℕ} (line more : List ℕ) {count : ℕ} {role : Rol
   next_stated = first_stated (reading_of line) (readings_of more) is.after
       (sym (readings_from rest line more first) ∙ is.rest_lines)
 
+  -- the next line states something while the line that is looked for lies ahead
   pub line_states : (statement : Statement) × (reading_of line ≡ stated statement)
   line_states = (next_stated.0, next_stated.3)
 
@@ -61,9 +63,11 @@ module _ {text rest : List ℕ} (line more : List ℕ) {count : ℕ} {role : Rol
     after_is = next_stated.2 ∙ ap (λ s. s ∷ next_stated.1) (states_one next_stated.0 statement
         (sym next_stated.3 ∙ states))
 
+    -- the next line is the first one that has the net, if its statement has it
     pub line_found : has_name (nets_in role statement) name ≡ true → IsFirstLine text role name (count + 1)
     line_found has statements lines = sym (is.line statements lines ∙ rw (after_is, has) refl)
 
+    -- the line that is looked for lies after the next one, if the statement of that one doesn't have the net
     pub line_passed : length more < length rest → has_name (nets_in role statement) name ≡ false
         → HasLineAhead text more (count + 1) role name
     line_passed shorter absent = record {

@@ -12,10 +12,12 @@ use Rattle.ht_statement.proofs.PrintLaws.{normal_is_one_line}
 use Rattle.ht_bench.specs.Normal.{statement_lines}
 use Rattle.ht_bench.proofs.AllLaws.{all_from_test}
 
+-- the lines of a text are the part before its first LF, without a CR at its end, and the lines of the rest
 pub lines_split : (text piece rest : List ℕ) → IsSplit text 10 piece rest → lines_of text ≡ without_cr piece
     ∷ lines_of rest
 lines_split text piece rest split = ap lines_of split.whole ∙ ap (map without_cr) (pieces-lf piece rest split.lacks)
 
+-- a text without an LF is one line, without a CR at its end, unless it is empty
 pub lines_last : (text : List ℕ) → Lacks text 10 → 0 < length text → lines_of text ≡ without_cr text ∷ []
 lines_last [] lacks some = absurd (omega arith)
 lines_last (x ∷ text) lacks some = ap (map without_cr) (pieces-last x text lacks)
@@ -37,6 +39,7 @@ no_return (x ∷ text) is e = omega (arith, is (length (x ∷ text) - 1) 0 (omeg
 keeps_line : (text : List ℕ) → slice_index text (length text - 1) ≢ 13 → without_cr text ≡ text
 keeps_line text other = grind (arith, nat_tests)
 
+-- the lines of a normal text are the texts of its statements
 pub lines_of_statements : (statements : List Statement) → All CanBeStated statements
     → lines_of (statement_lines statements) ≡ map statement_text statements
 lines_of_statements [] can = refl

@@ -27,10 +27,12 @@ name_stays {b} {c} {names} m k known =
     let all : c.names ≡ b.names ++ more.0 = ap (λ (x : Draft). x.names) m.is ∙ more.1 in
     rw all (omega (arith, length-append b.names more.0), get_or_append_left b.names more.0 [] k known)
 
+-- numbers of nets stay known after more names are mentioned
 pub names_known : {b c : Draft} {names : List Name} → Mentions b names c → (ids : List NameId) → All (IsName b) ids
     → All (IsName c) ids
 names_known {b} {c} m ids known = All-weaker (IsName b) (IsName c) (λ id is. (name_stays m id.0 is).0) ids known
 
+-- known numbers of nets keep their names after more names are mentioned
 pub names_stay : {b c : Draft} {names : List Name} → Mentions b names c → (ids : List NameId) → All (IsName b) ids
     → map (draft_name c) ids ≡ map (draft_name b) ids
 names_stay m [] known = refl

@@ -12,6 +12,7 @@ use Rattle.ht_bench.specs.Different.{has_name, with_name, with_names, different}
 use Rattle.std.proofs.lemmas.List.Quantifiers.{all_pairs_push}
 use Rattle.ht_net.proofs.PlaceLaws.{no_more}
 
+-- the test of a name decides whether the list contains it
 pub has_name-Decides : (names : List Name) (name : Name) → Decides (has_name names name) (Contains names name)
 has_name-Decides names name = (
   λ yes. let any = Any-from_list_any (λ other. bytes_eq other name) names yes in
@@ -20,20 +21,24 @@ has_name-Decides names name = (
       (c.0, name, c.1, c.2, (bytes_eq-Decides name name).1 refl),
 )
 
+-- the test of a name fails if the list doesn't contain it
 pub has_no_name : (names : List Name) (name : Name) → ¬ Contains names name → has_name names name ≡ false
 has_no_name names name none = false_from_ne_true (has_name names name)
     (λ yes. none ((has_name-Decides names name).0 yes))
 
+-- a name that fails the test is new to the list
 pub new_name : (names : List Name) (name : Name) → has_name names name ≡ false → IsNewName names name
 new_name names name lacks k lt e = both_ways (has_name names name) lacks
     ((has_name-Decides names name).1 (k, lt, get_or_default names k name [] lt ∙ e))
 
+-- a name that is new to the list fails the test
 pub has_new_name : (names : List Name) (name : Name) → IsNewName names name → has_name names name ≡ false
 has_new_name names name new = has_no_name names name (λ c.
     new c.0 c.1 (get_or_default names c.0 [] name c.1 ∙ c.2))
 
 -- ---- names that are added
 
+-- names that are added come after those that are there
 pub with_names-grow : (names others : List Name) → (rest : List Name) × (with_names names others ≡ names ++ rest)
 with_names-grow names [] = ([], sym (append-nil names))
 with_names-grow names (name ∷ others) =
@@ -42,11 +47,13 @@ with_names-grow names (name ∷ others) =
     (λ _. let on = with_names-grow (names ++ name ∷ []) others in
     (name ∷ on.0, on.1 ∙ append_assoc names (name ∷ []) on.0))
 
+-- a list to which names are added becomes no shorter
 pub with_names-long : (names others : List Name) → length names ≤ length (with_names names others)
 with_names-long names others =
     let on = with_names-grow names others in
     omega (arith, ap length on.1, length-append names on.0)
 
+-- what holds of all names of two lists holds of all names after the second is added to the first
 pub All-with_names : (P : Name → Type 0) (names others : List Name) → All P names → All P others
     → All P (with_names names others)
 All-with_names P names [] all more = all
@@ -88,9 +95,11 @@ with_names-apart names (name ∷ others) differ = with_names-apart (with_name na
     (λ no. all_pairs_push (λ x y. x ≢ y) names name differ (λ k d lt same. both_ways (has_name names name) no
     ((has_name-Decides names name).1 (k, lt, get_or_default names k name d lt ∙ same)))))
 
+-- the different names of a list differ from one another
 pub different_differ : (names : List Name) → AllDiffer (different names)
 different_differ names = with_names-apart [] names (λ j k d less lt. absurd (omega arith))
 
+-- names that another list contains have no more different ones than that list has members
 pub length-different : (names others : List Name) → All (Contains others) names
     → length (different names) ≤ length others
 length-different names others all = no_more (different names) others (different_differ names)

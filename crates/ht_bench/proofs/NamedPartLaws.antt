@@ -42,27 +42,33 @@ abbrev pub gate_named : Netlist → ℕ → Gate → NamedGate
 gate_named c x g = record { kind = g.kind; out = get_or c.names x []; args = map (name_of c) g.args }
 
 module _ (c : Netlist) (n : ℕ) where
+  -- there are as many flip-flops by name as by number
   pub named_dffs_count : (dffs : List NetId) → length (named_dffs c n dffs) ≡ length dffs
   named_dffs_count dffs = length-numbered (dff_named c) (named_dffs c) (λ m. refl) (λ m d more. refl) n dffs
 
+  -- there are as many gates by name as by number
   pub named_gates_count : (gates : List Gate) → length (named_gates c n gates) ≡ length gates
   named_gates_count gates = length-numbered (gate_named c) (named_gates c) (λ m. refl) (λ m g more. refl) n gates
 
+  -- flip-flop k by name has the name of net n + k and that of the net at its data pin
   pub get_or-named_dffs : (dffs : List NetId) (k : ℕ) → k < length dffs
       → get_or (named_dffs c n dffs) k no_named_dff ≡ dff_named c (n + k) (get_or dffs k no_net)
   get_or-named_dffs dffs k below = get_or-numbered (dff_named c) (named_dffs c) (λ m. refl) (λ m d more. refl) n dffs k
       no_net no_named_dff below
 
+  -- gate k by name has the name of net n + k, its kind and the names of its arguments
   pub get_or-named_gates : (gates : List Gate) (k : ℕ) → k < length gates
       → get_or (named_gates c n gates) k no_named_gate ≡ gate_named c (n + k) (get_or gates k no_gate)
   get_or-named_gates gates k below = get_or-numbered (gate_named c) (named_gates c) (λ m. refl) (λ m g more. refl) n
       gates k no_gate no_named_gate below
 
+  -- what holds of each flip-flop, once named, holds of all flip-flops by name
   pub All-named_dffs : (P : NamedDff → Type 0) (dffs : List NetId)
       → ((k : ℕ) → k < length dffs → P (dff_named c (n + k) (get_or dffs k no_net))) → All P (named_dffs c n dffs)
   All-named_dffs P dffs each = All-numbered (dff_named c) (named_dffs c) (λ m. refl) (λ m d more. refl) P n dffs no_net
       no_named_dff each
 
+  -- what holds of each gate, once named, holds of all gates by name
   pub All-named_gates : (P : NamedGate → Type 0) (gates : List Gate)
       → ((k : ℕ) → k < length gates → P (gate_named c (n + k) (get_or gates k no_gate))) → All P (named_gates c n gates)
   All-named_gates P gates each = All-numbered (gate_named c) (named_gates c) (λ m. refl) (λ m g more. refl) P n gates
@@ -76,6 +82,7 @@ module _ (c : Netlist) (n : ℕ) where
       (omega (arith, named_dffs_count dffs))
       ∙ ap (λ (d : NamedDff). d.out) (get_or-named_dffs dffs k below)
 
+  -- the nets that the gates drive are those from n on, by name
   pub gate_out : (gates : List Gate) (k : ℕ) → k < length gates
       → get_or (gate_outs (named_gates c n gates)) k [] ≡ get_or c.names (n + k) []
   gate_out gates k below =

@@ -28,6 +28,7 @@ module _ {text : List ℕ} {d : Draft} (is : IsRead text d) where
     count : length (map (draft_name d) nets) ≡ length nets
     count = length-map nets (draft_name d)
 
+    -- a cycle of a draft has at least one net
     pub some_net : 0 < length nets
     some_net = omega (arith, loop.cycle.some, count)
 
@@ -49,6 +50,7 @@ module _ {text : List ℕ} {d : Draft} (is : IsRead text d) where
     first_is_driven = net_is_driven is (get_or nets 0 no_name)
         (all (get_or nets 0 no_name) (loop.known 0 no_name some_net))
 
+    -- a cycle of the draft, each net driven, is one of the text, at the first line that drives its first net
     pub loop_found : (number : ℕ) → IsFirstLine text Driven (draft_name d (get_or nets 0 no_name)) number
         → IsLoop text number (map (draft_name d) nets)
     loop_found number first = record {

@@ -45,6 +45,7 @@ drives_its_names (dff_line out data_pin) are = All-left IsGood (out ∷ []) (dat
 drives_its_names (gate_line out kind args) are = All-left IsGood (out ∷ []) args are
 drives_its_names _ are = are
 
+-- each net of a circuit that was read has a name of the format
 pub names_were_read : (text : List ℕ) (c : Netlist) → IsNetlistOf text c → HasFormatNames c
 names_were_read text c is =
     let driven = driven_by is.statements in
@@ -60,9 +61,11 @@ names_were_read text c is =
 
 -- ---- what is read from normal text
 
+-- the normal text of a circuit with names of the format is the netlist of that circuit only
 pub read_back : (c d : Netlist) → IsCircuit c → HasFormatNames c → IsNetlistOf (normal_text c) d → d ≡ c
 read_back c d is good read = one_circuit (normal_text c) d c read (normal_is_netlist c is good)
 
+-- the normal text of a circuit with names of the format is refused only where memory runs out
 pub not_refused : (c : Netlist) (error : BenchError) → IsCircuit c → HasFormatNames c
     → IsOfNoCircuit (normal_text c) error → error ≡ NoMemory
 not_refused c NoMemory is good refuses = refl

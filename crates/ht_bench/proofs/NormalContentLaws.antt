@@ -50,9 +50,11 @@ flat_none [] = refl
 flat_none (x ∷ xs) = flat_none xs
 
 module _ (n : NamedNetlist) where
+  -- the statements of a netlist together say that netlist, with each of its outputs once
   pub named_said : named_of_statements (named_statements n) ≡ record n { outputs = different n.outputs }
   named_said = simp (fold-append, inputs_said, outputs_said, dffs_said, gates_said)
 
+  -- the statements of a netlist drive its inputs, its flip-flops' nets and its gates' nets, in this order
   pub driven_are : driven_by (named_statements n) ≡ net_names n
   driven_are = simp (
     flat_map-append,
@@ -107,6 +109,7 @@ module _ (c : Netlist) (is : IsCircuit c) where
       (All-from_get_or (λ net. Contains c.names (name_of c net)) (gate_at c g).args no_net
       (λ i within. has_net (get_or (gate_at c g).args i no_net).0 (is.known g i inside within))))))
 
+  -- each statement of a circuit has a number of arguments that its kind may have
   pub have_counts : All (λ s. has_its_count s ≡ true) (statements_of c)
   have_counts =
       let HasIts : Statement → Type 0 = λ s. has_its_count s ≡ true in

@@ -38,6 +38,7 @@ sum_of_args c x (g ∷ gates) =
     omega (arith, length-map g.args (name_of c))
 
 module _ (c : Netlist) (is : IsCircuit c) where
+  -- the statements of a circuit drive its nets, in the order of their numbers
   pub driven_are_names : driven_by (statements_of c) ≡ c.names
   driven_are_names =
       let n = named_of c in
@@ -69,5 +70,6 @@ module _ (c : Netlist) (is : IsCircuit c) where
   statements_say = named_said (named_of c) ∙ ap (λ l. record (named_of c) { outputs = l })
       (with_names-differ [] (named_of c).outputs outputs_differ)
 
+  -- a circuit has as many pins by name as by number
   pub pins_are : named_pins (named_of c) ≡ pin_count c
   pins_are = omega (arith, named_dffs_count c c.inputs c.dffs, sum_of_args c (first_gate_net c) c.gates)

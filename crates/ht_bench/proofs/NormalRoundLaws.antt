@@ -140,6 +140,7 @@ module _ (c : Netlist) (is : IsCircuit c) where
           count = have_counts c is k d below;
         }
 
+    -- the normal text of a circuit with names of the format is its netlist
     pub normal_is_netlist : IsNetlistOf (normal_text c) c
     normal_is_netlist =
         let lines : readings_of (normal_text c) ≡ map stated (statements_of c) =

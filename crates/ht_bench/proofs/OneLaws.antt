@@ -68,6 +68,7 @@ module _ (c : Netlist) (is : IsCircuit c) where
       (λ o lt. omega (arith, is.outputs_known o lt))) in
       rw (inputs, dffs, gates, outputs, names_back) refl
 
+-- a text is the netlist of at most one circuit
 pub one_circuit : (text : List ℕ) (c e : Netlist) → IsNetlistOf text c → IsNetlistOf text e → c ≡ e
 one_circuit text c e is_c is_e =
     let same = same_statements is_c.statements is_e.statements (sym is_c.read.lines ∙ is_e.read.lines) in

@@ -30,6 +30,7 @@ pub record IsReading (text rest : List ℕ) (count : ℕ) (d : Draft) : Type 0 w
 pub reading_within : {text rest : List ℕ} {count : ℕ} {d : Draft} → IsReading text rest count d → draft_limit d ≡ None
 reading_within is = ap draft_limit is.draft.is ∙ is.draft.limits
 
+-- before the first line nothing is read, and the draft is that of no statements
 pub reading_none : (text : List ℕ) (d : Draft) → IsDraftOf [] d → IsReading text text 0 d
 reading_none text d draft =
     record { before = []; lines = refl; refusal = refl; is_count = refl; short = omega arith; draft = draft }
@@ -41,6 +42,7 @@ readings_from rest line more first = ap (map reading_of) first
 
 -- ---- one more line
 
+-- a statement that drives no net a second time and passes no limit is accepted
 pub no_error : (before : List Statement) (s : Statement) → second_driver before s ≡ None
     → limit_passed (before ++ s ∷ []) ≡ None → reading_error before (stated s) ≡ None
 no_error before s free limits = rw (free, limits) refl
@@ -57,6 +59,7 @@ module _ (before : List Statement) (old : Draft) (is : IsDraftOf before old) (s 
   with_one : with_line old s ≡ drafted (stated_nets (before ++ s ∷ [])) (named_of_statements (before ++ s ∷ []))
   with_one = ap (λ d. with_line d s) is.is ∙ simp (flat_map-append, fold-append, append-nil)
 
+  -- a statement is judged by the statements before it as by their draft
   pub error_is : reading_error before (stated s) ≡ draft_error old s
   error_is =
       let driven : second_driver before s ≡ find (has_name (driven_names old)) (driven_in s) =
@@ -66,6 +69,7 @@ module _ (before : List Statement) (old : Draft) (is : IsDraftOf before old) (s 
       ap (λ net. driver_or_limit net (limit_passed (before ++ s ∷ []))) driven
       ∙ ap (λ d. driver_or_limit (find (has_name (driven_names old)) (driven_in s)) (draft_limit d)) (sym with_one)
 
+  -- a draft that accepts one more statement gives the draft of all these statements
   pub draft_more : (new : Draft) → Accepts old s new → IsDraftOf (before ++ s ∷ []) new
   draft_more new accepts = record {
     is = accepts.0 ∙ with_one;
@@ -73,11 +77,13 @@ module _ (before : List Statement) (old : Draft) (is : IsDraftOf before old) (s 
         (draft_limit (with_line old s)) accepts.1;
   }
 
+-- what refuses a statement after those of a draft refuses each line that states it
 pub line_refused : {A : Type 0} (r : Result A AddError) (old : Draft) (line : List ℕ) (s : Statement)
     → reading_of line ≡ stated s → IfErr r (RefusesStatement old s) → IfErr r (RefusesLine old line)
 line_refused (Ok x) old line s e refused = tt
 line_refused (Err error) old line s e refused = λ before is. rw (e, error_is before old is s) refused
 
+-- after a line that the draft accepts, one line more is read
 pub reading_more : {text rest : List ℕ} (line more : List ℕ) {count : ℕ} {old new : Draft}
     → IsReading text rest count old → lines_of rest ≡ line ∷ lines_of more → length more < length rest
     → AddsLine old line new → IsReading text more (count + 1) new

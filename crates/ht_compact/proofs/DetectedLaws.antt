@@ -29,6 +29,7 @@ detected_first c list i None some first = cc
 detected_first c list i (Some p) some first =
     record { vector = p.vector; output = p.output; detects = first.0 }
 
+-- a list with no first detection of a fault doesn't detect it
 pub undetected_first : (c : Netlist) (list : List (List Bool)) (i : ℕ) (place : Option Place)
     → is_some place ≡ false → IsFirstDetection c (fault_at c i) list place → ¬ IsDetectedBy c list i
 undetected_first c list i None none first is = first is.vector is.output is.detects
@@ -83,6 +84,7 @@ run_to_end c wanted list t grader circuit faults stands done = record {
       (chosen_first c wanted (take t list) grader k circuit faults inside stands));
 }
 
+-- a grader that has detected all wanted faults has missed none that the list detects
 pub run_to_last : (c : Netlist) (wanted : List ℕ) (list : List (List Bool)) (t seen : ℕ) (grader : PackedView)
     → AreSeenSoFar c wanted list t seen → grader.circuit ≡ c → grader.faults ≡ chosen_faults (faults_of c) wanted
     → GraderStandsFor grader (unknown_state c) (take t list) → seen ≡ length wanted → HasRunWanted c wanted list grader

@@ -13,6 +13,7 @@ joined {A} a b d e none one two three empty first second third =
     third ∙ (ap (λ (l : List A). l ++ (d ++ e))
     (second ∙ ap (λ (l : List A). l ++ b) (first ∙ ap (λ (l : List A). l ++ a) empty)) ∙ sym (append_assoc (a ++ b) d e))
 
+-- clauses that are joined from the frame, the cubes and the targets, without constants, are the formula
 pub built : (c : Netlist) (fault : Fault) (cone : ℕ → Bool) (cubes : List (List Rail)) (nets : ℕ)
     (none one two three clauses targets : List (List SignedVar)) → nets ≡ net_count c → none ≡ []
     → one ≡ none ++ frame_clauses c fault cone → two ≡ one ++ map (cube_clause c cone) cubes

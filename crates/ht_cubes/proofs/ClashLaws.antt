@@ -21,6 +21,7 @@ not_same : (b : Bool) → b ≡ not b → ⊥
 not_same true e = cc
 not_same false e = cc
 
+-- the complement of a complement is the signed variable itself
 pub complement_twice : (l : SignedVar) → complement (complement l) ≡ l
 complement_twice l = (λ k. record { variable = l.variable; value = twice l.value k })
 
@@ -186,11 +187,13 @@ mapped_back clause l h =
     let P : SignedVar → Type 0 = λ k. Contains clause k in
     subst P (sym (complement_twice m) ∙ ap complement is) inside
 
+-- where the first i of a clause are made false and one of the clause is true, the clause has opposites
 pub deny_opposites : (clause : List SignedVar) (i : ℕ) (values : List (Option Bool)) (l : SignedVar)
     → SayFacts (map complement (take i clause)) values → IsTrueIn values l → Contains clause l → HasNoOpposites clause → ⊥
 deny_opposites clause i values l say is inside plain =
     plain l inside (contains_take clause i (complement l) (mapped_back (take i clause) l ((say l).1 is)))
 
+-- a clause of which all is made false has no opposites
 pub deny_plain : (clause : List SignedVar) (values : List (Option Bool)) → SayFacts (map complement clause) values
     → HasNoOpposites clause
 deny_plain clause values say l one two =
@@ -204,6 +207,7 @@ deny_take : (clause : List SignedVar) (i : ℕ) (d : SignedVar) → i < length c
 deny_take clause i d inside = sym (ap (map complement) (take_more clause i d inside)
     ∙ map-append complement (take i clause) (get_or clause i d ∷ []))
 
+-- where the next of a clause is false, one more of the clause is made false with the same values
 pub deny_again : (clause : List SignedVar) (i : ℕ) (d : SignedVar) (values : List (Option Bool)) → i < length clause
     → SayFacts (map complement (take i clause)) values → IsFalseIn values (get_or clause i d)
     → SayFacts (map complement (take (i + 1) clause)) values
@@ -212,6 +216,7 @@ deny_again clause i d values inside say is =
     subst P (deny_take clause i d inside)
     (facts_again (map complement (take i clause)) values (complement (get_or clause i d)) say is)
 
+-- where the next of a clause has no value, its opposite bit makes one more of the clause false
 pub deny_more : (clause : List SignedVar) (i : ℕ) (d : SignedVar) (values : List (Option Bool)) → i < length clause
     → SayFacts (map complement (take i clause)) values → (get_or clause i d).variable < length values
     → get_or values (get_or clause i d).variable None ≡ None

@@ -31,9 +31,11 @@ from_set marks x y h = elim (cases_eq y x) [
 ]
 
 module _ (c : Netlist) where
+  -- marks have grown from themselves
   pub grown_now : (marks : List Bool) → HaveGrown c marks marks
   grown_now marks = record { long = refl; kept = λ x h. h; reached = λ f h. h; count = omega arith }
 
+  -- marks that have grown twice have grown from the first
   pub grown_more : (a b d : List Bool) → HaveGrown c a b → HaveGrown c b d → HaveGrown c a d
   grown_more a b d one two = record {
     long = two.long ∙ one.long;
@@ -56,6 +58,7 @@ module _ (c : Netlist) where
     count = omega (arith, unmarked_set marks x l e);
   }
 
+  -- a sweep with a new mark is one with a change
   pub swept_set : (closes : Type 0) (marks : List Bool) (x : ℕ) → x < length marks → get_or marks x false ≡ false
       → IsSwept closes marks (set marks x true) true
   swept_set closes marks x l e = record {
@@ -64,6 +67,7 @@ module _ (c : Netlist) where
     closed = λ wrong. absurd (both_ways true wrong refl);
   }
 
+  -- marks that close are swept without a change
   pub swept_none : (closes : Type 0) (marks : List Bool) → closes → IsSwept closes marks marks false
   swept_none closes marks h = record {
     fewer = λ so. absurd (false≢true so);
@@ -113,9 +117,11 @@ swept_join P Q R join a b d x y z few less one two right wrong = record {
 abbrev pub Joins : Bool → Bool → Bool → Type 0
 Joins before one now = (one ≡ true → now ≡ true) × (one ≡ false → now ≡ before)
 
+-- a new mark makes the answer yes, whatever it was before
 pub joins_new : (before : Bool) {one now : Bool} → one ≡ true → now ≡ true → Joins before one now
 joins_new before {one} on is = ((λ yes. is), (λ wrong. absurd (both_ways one wrong on)))
 
+-- without a new mark the answer stays as it was before
 pub joins_old : {before one now : Bool} → one ≡ false → now ≡ before → Joins before one now
 joins_old {before} {one} off is = ((λ yes. absurd (both_ways one off yes)), (λ no. is))
 

@@ -38,6 +38,7 @@ frame_values nets driven comes (suc n) =
     else (if nat_lt n (nets * 4) then is_definitely (nat_eq (n % 2) 1) (driven true (n / 2 - nets))
     else comes (suc n))
 
+-- the constant is true
 pub always_true : (nets : ℕ) (driven : Bool → ℕ → Tern) (comes : ℕ → Bool) → frame_values nets driven comes 0 ≡ true
 unfolding frame_values
 always_true nets driven comes = refl
@@ -113,6 +114,7 @@ pins_tell values r t g keeps e f i (a ∷ args) h = (
   pins_tell values r t g keeps e f (i + 1) args (λ j l. h (suc j) (omega arith)),
 )
 
+-- what holds of each list's clauses, up to the end of a range, holds of those of the range's lists joined
 pub flat_true : (P : List SignedVar → Type 0) (f : ℕ → List (List SignedVar)) (a n : ℕ)
     → ((x : ℕ) → x < a + n → All P (f x)) → All P (flat_map f (range_with_len a n))
 flat_true P f a zero h = All-nil P
@@ -134,6 +136,7 @@ module _ (c : Netlist) (fault : Fault) (cone : ℕ → Bool) (P : List SignedVar
       (cond_both (is_doubled c fault cone g) (machine_clauses c fault cone true g) [] (All P)
       (λ yes. machine true g inside) (λ no. All-nil P))
 
+  -- what holds of the clauses of each driver and of each gate holds of each clause of a frame
   pub frame_all : All P (frame_clauses c fault cone)
   frame_all =
       All-append P
@@ -155,6 +158,7 @@ module _ (values : ℕ → Bool) (f : Rail → SignedVar) where
       let parts = denied_fails values (f r) (map (λ (q : Rail). complement (f q)) cube) h in
       All-cons (λ (q : Rail). truth_of values (f q) ≡ true) r cube parts.0 (denied_all cube parts.1)
 
+-- two opposite values are a bit and its complement
 pub opposite_bits : (t u : Tern) → Opposite t u → (bit : Bool) × (t ≡ tern_of bit) × (u ≡ tern_of (not bit))
 opposite_bits Zero One h = (false, refl, refl)
 opposite_bits One Zero h = (true, refl, refl)
@@ -231,6 +235,7 @@ module _ (c : Netlist) (circuit : IsCircuit c) (fault : Fault) (cone : ℕ → B
         (stuck_line fault faulty) here x t
         tells
 
+    -- the signal of a net tells its value as its loads see it
     pub tells_net : (faulty : Bool) (x : ℕ) → x < net_count c
         → Tells values (net_signal c fault cone faulty x) (seen faulty x)
     tells_net faulty x inside bit =
@@ -259,6 +264,7 @@ module _ (c : Netlist) (circuit : IsCircuit c) (fault : Fault) (cone : ℕ → B
     either_of faulty x inside =
         either_true values (driver_signal c cone faulty x) (driven faulty x) (tells_driver faulty x inside)
 
+    -- each clause of the frame is true
     pub frame_true : AreTrueClauses values (frame_clauses c fault cone)
     frame_true = frame_all c fault cone (IsTrueClause values) either_of machine_true
 

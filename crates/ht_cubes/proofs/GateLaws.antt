@@ -28,6 +28,7 @@ Tells values s t = (bit : Bool) → truth_of values (rail_of s bit) ≡ is_defin
 pub definite_is : (bit : Bool) (t : Tern) → is_definitely bit t ≡ true → t ≡ tern_of bit
 definite_is bit t e = grind arith
 
+-- the value of a bit is definitely that bit
 pub is_definite : (bit : Bool) → is_definitely bit (tern_of bit) ≡ true
 is_definite true = refl
 is_definite false = refl
@@ -43,6 +44,7 @@ tells_turned : (values : ℕ → Bool) (s : Signal) (t : Tern) → Tells values 
     → Tells values (turned s) (complement_of t)
 tells_turned values s t h bit = ap (truth_of values) (rail_turned s bit) ∙ (h (not bit) ∙ definitely_turned bit t)
 
+-- the signal of a stuck line tells the bit at which it is stuck
 pub tells_stuck : (values : ℕ → Bool) → values 0 ≡ true → (stuck : Bool)
     → Tells values (stuck_signal stuck) (tern_of stuck)
 tells_stuck values h true true = h
@@ -147,6 +149,7 @@ unlike_bit true false e = refl
 unlike_bit false true e = refl
 unlike_bit false false e = cc
 
+-- each choice of n bits has n bits
 pub choices_long : (n : ℕ) → All (λ (bits : List Bool). length bits ≡ n) (choices n)
 choices_long zero = All-cons (λ (bits : List Bool). length bits ≡ 0) [] [] refl
     (All-nil (λ (bits : List Bool). length bits ≡ 0))

@@ -23,12 +23,15 @@ module _ (clauses : List (List SignedVar)) (facts now : List SignedVar) (hints :
   from_hint h =
       so_far.1 (let P : List ℕ → Type 0 = λ l. Clash clauses now l in subst P (sym (drop_next hints i 0 inside)) h)
 
+  -- where the hints clash, the next one is the number of a clause
   pub hint_known : Clash clauses facts hints → IsNumber clauses (get_or hints i 0)
   hint_known h = clash_known now values said clauses (get_or hints i 0) (drop (i + 1) hints) (at_hint h)
 
+  -- where the clause of the next hint is open, the hints don't clash
   pub hint_open : IsOpen values (clause_at clauses (get_or hints i 0)) → Clash clauses facts hints → ⊥
   hint_open free h = clash_open now values said clauses (get_or hints i 0) (drop (i + 1) hints) free (at_hint h)
 
+  -- where the clause of the next hint leaves one, the hints clash just where those after it do with that one true
   pub hint_left : (l : SignedVar) → IsNumber clauses (get_or hints i 0)
       → StandsSo values (clause_at clauses (get_or hints i 0)) (Some l)
       → Clash clauses facts hints ↔ Clash clauses (now ++ l ∷ []) (drop (i + 1) hints)
@@ -37,6 +40,7 @@ module _ (clauses : List (List SignedVar)) (facts now : List SignedVar) (hints :
       (leaves_to now values said (clause_at clauses (get_or hints i 0)) l so) in
       ((λ h. on.0 (at_hint h)), (λ h. from_hint (on.1 h)))
 
+  -- where the clause of the next hint fails, the hints clash just where it is the last
   pub hint_failed : IsNumber clauses (get_or hints i 0)
       → StandsSo values (clause_at clauses (get_or hints i 0)) None
       → Clash clauses facts hints ↔ (i + 1 ≡ length hints)
@@ -59,6 +63,7 @@ hints_end clauses facts now hints i so_far past h =
 module _ (clauses : List (List SignedVar)) (n count : ℕ) (row : List SignedVar) (old values : List (Option Bool))
     (below : All (IsBelow count) clauses) (long : length old ≡ count) (known : IsNumber clauses n)
     (is : row ≡ clause_at clauses n) (same : values ≡ old) where
+  -- the variables of a hint's clause have an index in the values
   pub row_below : IsBelow (length values) row
   row_below =
       let P : List SignedVar → Type 0 = λ r. IsBelow (length values) r in
@@ -66,6 +71,7 @@ module _ (clauses : List (List SignedVar)) (n count : ℕ) (row : List SignedVar
       let e : count ≡ length values = sym long ∙ ap (λ (l : List (Option Bool)). length l) (sym same) in
       subst P (sym is) (subst Q e (below (n - 1) [] (omega (arith, known.0, known.1))))
 
+  -- the one that a hint's clause leaves has an index in the values
   pub left_below : (l : SignedVar) → StandsSo values row (Some l) → l.variable < length old
   unfolding StandsSo
   left_below l so =
@@ -73,12 +79,14 @@ module _ (clauses : List (List SignedVar)) (n count : ℕ) (row : List SignedVar
       All-contains (λ (m : SignedVar). m.variable < length values) row l row_below so.0 in
       let e = ap (λ (v : List (Option Bool)). length v) same in omega (arith, low, e)
 
+  -- the clause of a hint stands as the row that is read
   pub row_stands : (left : Option SignedVar) → StandsSo values row left → StandsSo old (clause_at clauses n) left
   row_stands left so =
       let P : List (Option Bool) → Type 0 = λ v. StandsSo v row left in
       let Q : List SignedVar → Type 0 = λ r. StandsSo old r left in
       subst Q is (subst P same so)
 
+  -- the clause of a hint is open where the row that is read is
   pub row_open : IsOpen values row → IsOpen old (clause_at clauses n)
   row_open so =
       let P : List (Option Bool) → Type 0 = λ v. IsOpen v row in
@@ -124,9 +132,11 @@ module _ (first clauses more : List (List SignedVar)) (steps : List ClauseStep) 
   from_step h = so_far.1 (let P : List ClauseStep → Type 0 = λ l. StepsPass clauses l in
       subst P (sym (drop_next steps i no_step inside)) h)
 
+  -- where all steps pass, the next one passes
   pub step_needed : StepsPass first steps → StepPasses clauses (get_or steps i no_step)
   step_needed h = (at_step h).0
 
+  -- where the next step passes, all steps pass just where those after it do, after one more clause
   pub steps_on : StepPasses clauses (get_or steps i no_step)
       → more ≡ clauses ++ (get_or steps i no_step).literals ∷ []
       → StepsPass first steps ↔ StepsPass more (drop (i + 1) steps)
@@ -134,6 +144,7 @@ module _ (first clauses more : List (List SignedVar)) (steps : List ClauseStep) 
       let P : List (List SignedVar) → Type 0 = λ l. StepsPass l (drop (i + 1) steps) in
       ((λ h. subst P (sym is) (at_step h).1), (λ h. from_step (here, subst P is h)))
 
+-- where no step is left, all steps pass
 pub steps_end : (first clauses : List (List SignedVar)) (steps : List ClauseStep) (i : ℕ)
     → StepsPass first steps ↔ StepsPass clauses (drop i steps) → length steps ≤ i → StepsPass first steps
 steps_end first clauses steps i so_far past =
@@ -176,10 +187,12 @@ module _ (first clauses more : List (List SignedVar)) (steps : List ClauseStep) 
   step_at : step ≡ get_or steps i no_step
   step_at = get_or_read steps i step inside read no_step
 
+  -- where all steps pass, the one that is read passes
   pub step_wanted : StepsPass first steps → StepPasses clauses step
   step_wanted h = let P : ClauseStep → Type 0 = λ s. StepPasses clauses s in
       subst P (sym step_at) (step_needed first clauses more steps i so_far inside h)
 
+  -- where the step that is read passes, all steps pass just where those after it do, after one more clause
   pub steps_more : StepPasses clauses step → more ≡ clauses ++ literals ∷ []
       → StepsPass first steps ↔ StepsPass more (drop (i + 1) steps)
   steps_more here pushed =
@@ -187,11 +200,13 @@ module _ (first clauses more : List (List SignedVar)) (steps : List ClauseStep) 
       steps_on first clauses more steps i so_far inside (subst P step_at here)
       (pushed ∙ ap (λ (l : List SignedVar). clauses ++ l ∷ []) (is ∙ ap (λ (s : ClauseStep). s.literals) step_at))
 
+  -- the variables of the step that is read are below the number after the last
   pub step_below : All (λ (s : ClauseStep). IsWithin last s.literals) steps → IsBelow (last + 1) step.literals
   step_below within =
       let P : ClauseStep → Type 0 = λ s. IsWithin last s.literals in
       within_below last step.literals (subst P (sym step_at) (within i no_step inside))
 
+  -- the variables of the clauses, with those of the step that is read, are below the number after the last
   pub rows_below : All (λ (s : ClauseStep). IsWithin last s.literals) steps → All (IsBelow (last + 1)) clauses
       → more ≡ clauses ++ literals ∷ [] → All (IsBelow (last + 1)) more
   rows_below within below pushed =

@@ -34,6 +34,7 @@ any_at test (y ∷ xs) zero x h at passes = or_left (test y) (list_any test xs) 
 any_at test (y ∷ xs) (suc k) x h at passes =
     or_right (test y) (list_any test xs) (any_at test xs k x (omega arith) at passes)
 
+-- where an element of a list passes, some element passes
 pub any_from : {X : Type 0} (test : X → Bool) (xs : List X) (x : X) → Contains xs x → test x ≡ true
     → list_any test xs ≡ true
 any_from test xs x h passes = any_at test xs h.0 x h.1 h.2 passes
@@ -52,6 +53,7 @@ either_not true x = refl
 either_not false true = refl
 either_not false false = refl
 
+-- the complement is true just where the signed variable isn't
 pub complement_truth : (values : ℕ → Bool) (l : SignedVar) → truth_of values (complement l) ≡ not (truth_of values l)
 complement_truth values l = either_not l.value (values l.variable)
 
@@ -72,6 +74,7 @@ module _ (values : ℕ → Bool) where
         (complement_truth values l ∙ not_from_false (truth_of values l) fails)
   ]
 
+  -- a list of one signed variable has one that is true, if that one is
   pub just_one : (l : SignedVar) → truth_of values l ≡ true → list_any (truth_of values) (l ∷ []) ≡ true
   just_one l h = or_left (truth_of values l) false h
 

@@ -125,6 +125,7 @@ module _ (c : Netlist) (circuit : IsCircuit c) (fault : Fault) (within : ℕ →
             (net_value_within k c (tern_rules (Some fault)) vector faulty)
             (λ y here free. within_outside k y here free) x inside out
 
+        -- outside a set that encloses the fault a net has the same value in both machines
         pub net_outside : (x : ℕ) → x < net_count c → within x ≡ false
             → net_value c (tern_rules None) vector good x ≡ net_value c (tern_rules (Some fault)) vector faulty x
         unfolding net_value

@@ -26,15 +26,18 @@ module _ {c : Netlist} {fault : Fault} {start : List Tern} {cubes : List (List R
   pub cone_is : h.cone ≡ cone
   cone_is = cones_agree c fault h.cone cone h.is_cone is_cone
 
+  -- each rail of the cubes is known in this cone
   pub known_here : All (All (IsKnownRail c cone)) cubes
   known_here = let P : (ℕ → Bool) → Type 0 = λ s. All (All (IsKnownRail c s)) cubes in subst P cone_is h.known
 
+  -- the steps are over the variables of the formula of this cone
   pub within_here : All (λ (s : ClauseStep). IsWithin (last_variable c fault cone cubes) s.literals) steps
   within_here =
       let P : (ℕ → Bool) → Type 0 =
       λ t. All (λ (s : ClauseStep). IsWithin (last_variable c fault t cubes) s.literals) steps in
       subst P cone_is h.within
 
+  -- the steps pass after the formula of this cone
   pub passes_here : StepsPass (formula_of c fault cone cubes) steps
   passes_here =
       let P : (ℕ → Bool) → Type 0 = λ s. StepsPass (formula_of c fault s cubes) steps in subst P cone_is h.passes
@@ -49,12 +52,14 @@ passing_excludes c fault start cubes steps circuit is h =
 -- clauses and a last variable that are those of the formula
 module _ (c : Netlist) (fault : Fault) (cubes : List (List Rail)) (cone : ℕ → Bool) {clauses : List (List SignedVar)}
     {last : ℕ} (is : clauses ≡ formula_of c fault cone cubes) (top : last ≡ last_variable c fault cone cubes) where
+  -- the variables of the formula's clauses are below the number after the last
   pub clauses_below : IsCircuit c → All (All (IsKnownRail c cone)) cubes → All (IsBelow (last + 1)) clauses
   clauses_below circuit known =
       let P : List (List SignedVar) → Type 0 = λ l. All (IsBelow (last + 1)) l in
       let Q : ℕ → Type 0 = λ n. All (IsBelow (n + 1)) (formula_of c fault cone cubes) in
       subst P (sym is) (subst Q (sym top) (formula_below c circuit fault cone cubes known))
 
+  -- where a refutation passes, its steps are over the variables up to the last
   pub within_last : IsCone c fault cone → {start : List Tern} {steps : List ClauseStep}
       → RefutesByCubes c fault start cubes steps → All (λ (s : ClauseStep). IsWithin last s.literals) steps
   within_last is_cone {start} {steps} h =

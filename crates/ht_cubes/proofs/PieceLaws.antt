@@ -12,10 +12,12 @@ use Rattle.ht_cubes.specs.declared.signed_var.SignedVar.{SignedVar}
 use Rattle.ht_cubes.specs.Formula.{choices, parity_of, positive, needs, target_clauses, some_target, is_constant, may_come, without_constants}
 use Rattle.ht_cubes.proofs.ListLaws.{drop_next}
 
+-- the choices of one bit more are those that begin with 0 and then those that begin with 1
 pub choices_next : (n : ℕ) → choices (n + 1)
     ≡ map (λ bits. false ∷ bits) (choices n) ++ map (λ bits. true ∷ bits) (choices n)
 choices_next n = ap choices (add-one n)
 
+-- rows that begin with 0, and then rows that begin with 1, are the choices of one bit more
 pub choices_on : (n : ℕ) (rows none one two : List (List Bool)) → rows ≡ choices n → none ≡ []
     → one ≡ none ++ map (λ bits. false ∷ bits) rows → two ≡ one ++ map (λ bits. true ∷ bits) rows → two ≡ choices (n + 1)
 choices_on n rows none one two so empty first second =
@@ -63,18 +65,21 @@ parity_end bit bits i other past so =
 
 -- one more of a list that is kept by a test, and one that isn't
 module _ {X Y : Type 0} (p : X → Bool) (f : X → Y) (xs : List X) (i : ℕ) (d : X) (inside : i < length xs) where
+  -- one more that the test keeps is one more at the end
   pub kept_more : p (get_or xs i d) ≡ true
       → map f (filter p (take (i + 1) xs)) ≡ map f (filter p (take i xs)) ++ f (get_or xs i d) ∷ []
   kept_more right = ap (map f) (filter_more p xs i d inside
       ∙ ap (λ (l : List X). filter p (take i xs) ++ l) (cond-true (p (get_or xs i d)) (get_or xs i d ∷ []) [] right))
       ∙ map-append f (filter p (take i xs)) (get_or xs i d ∷ [])
 
+  -- one more that the test leaves out leaves the list as it is
   pub left_more : p (get_or xs i d) ≡ false
       → map f (filter p (take (i + 1) xs)) ≡ map f (filter p (take i xs))
   left_more wrong = ap (map f) (filter_more p xs i d inside
       ∙ (ap (λ (l : List X). filter p (take i xs) ++ l) (cond-false (p (get_or xs i d)) (get_or xs i d ∷ []) [] wrong)
       ∙ append-nil (filter p (take i xs))))
 
+  -- with one more that the test keeps, the new rows are those of one item more
   pub kept_on : (start rows new : List Y) → rows ≡ start ++ map f (filter p (take i xs)) → p (get_or xs i d) ≡ true
       → new ≡ rows ++ f (get_or xs i d) ∷ [] → new ≡ start ++ map f (filter p (take (i + 1) xs))
   kept_on start rows new so right is =
@@ -82,6 +87,7 @@ module _ {X Y : Type 0} (p : X → Bool) (f : X → Y) (xs : List X) (i : ℕ) (
       ∙ (append_assoc start (map f (filter p (take i xs))) (f (get_or xs i d) ∷ [])
       ∙ ap (λ (l : List Y). start ++ l) (sym (kept_more right))))
 
+  -- with one more that the test leaves out, the same rows are those of one item more
   pub left_on : (start rows new : List Y) → rows ≡ start ++ map f (filter p (take i xs)) → p (get_or xs i d) ≡ false
       → new ≡ rows → new ≡ start ++ map f (filter p (take (i + 1) xs))
   left_on start rows new so wrong is = is ∙ (so ∙ ap (λ (l : List Y). start ++ l) (sym (left_more wrong)))
@@ -108,12 +114,14 @@ kept_by : (clause : List SignedVar) (i : ℕ) (d : SignedVar) (plain new more : 
 kept_by clause i d plain new more inside so kept is =
     is ∙ ((λ k. so k ++ sym kept k) ∙ sym (filter_more (λ l. not (is_constant false l)) clause i d inside))
 
+-- one more that isn't the constant false is added to the clause without constants
 pub kept_plain : (clause : List SignedVar) (i : ℕ) (d : SignedVar) (plain new : List SignedVar) → i < length clause
     → plain ≡ filter (λ l. not (is_constant false l)) (take i clause) → is_constant false (get_or clause i d) ≡ false
     → new ≡ plain ++ get_or clause i d ∷ [] → new ≡ filter (λ l. not (is_constant false l)) (take (i + 1) clause)
 kept_plain clause i d plain new inside so wrong is = kept_by clause i d plain new (get_or clause i d ∷ []) inside so
     (cond-true (not (is_constant false (get_or clause i d))) (get_or clause i d ∷ []) [] (ap not wrong)) is
 
+-- one more that is the constant false leaves the clause without constants as it is
 pub left_plain : (clause : List SignedVar) (i : ℕ) (d : SignedVar) (plain new : List SignedVar) → i < length clause
     → plain ≡ filter (λ l. not (is_constant false l)) (take i clause) → is_constant false (get_or clause i d) ≡ true
     → new ≡ plain → new ≡ filter (λ l. not (is_constant false l)) (take (i + 1) clause)
@@ -142,6 +150,7 @@ target_more first (t ∷ targets) target =
     (let e : suc first + length targets ≡ first + suc (length targets) = omega arith in e))
     ∙ sym (append_assoc front (target_clauses (suc first) targets) _)
 
+-- with one more target, the clause that some target comes has one more variable
 pub some_more : (first : ℕ) (targets : List (List SignedVar)) (target : List SignedVar)
     → some_target first (targets ++ target ∷ []) ≡ some_target first targets ++ positive (first + length targets) ∷ []
 some_more first [] target =
@@ -166,6 +175,7 @@ targets_on first targets i start rows new row inside read so is =
     ∙ ap (λ (l : List (List SignedVar)). start ++ l)
     (sym (ap (target_clauses first) (take_more targets i [] inside) ∙ target_more first front (get_or targets i [])))))
 
+-- with the variable of the next target, the clause that some target comes is that of one target more
 pub some_on : (first : ℕ) (targets : List (List SignedVar)) (i : ℕ) (front new : List SignedVar) → i < length targets
     → front ≡ some_target first (take i targets) → new ≡ front ++ positive (first + i) ∷ []
     → new ≡ some_target first (take (i + 1) targets)

@@ -28,6 +28,7 @@ use Rattle.ht_cubes.proofs.MeaningLaws.{truth_of, IsTrueClause, AreTrueClauses, 
 use Rattle.ht_cubes.proofs.StepLaws.{refuted_by_steps}
 use Rattle.ht_cubes.proofs.FrameLaws.{always_true, target_value, AllTrue, opposite_bits, seen, values, frame_true, cube_true, next_true, differs_true, driven}
 
+-- an element that passes a test is among those that pass
 pub contains_filter : {X : Type 0} (p : X → Bool) (xs : List X) (x : X) → Contains xs x → p x ≡ true
     → Contains (filter p xs) x
 contains_filter {X} p xs x h passes = at xs h.0 h.1 h.2
@@ -43,6 +44,7 @@ contains_filter {X} p xs x h passes = at xs h.0 h.1 h.2
         cond_both (p y) (y ∷ filter p ys) (filter p ys) (λ zs. Contains zs x)
         (λ yes. (suc rest.0, omega (arith, rest.1), rest.2)) (λ no. rest)
 
+-- an element of one of the lists is an element of the lists joined
 pub contains_flat : {X Y : Type 0} (f : X → List Y) (xs : List X) (x : X) (y : Y) → Contains xs x → Contains (f x) y
     → Contains (flat_map f xs) y
 contains_flat {X} {Y} f xs x y h inside = at xs h.0 h.1 h.2
@@ -263,5 +265,6 @@ module _ (c : Netlist) (circuit : IsCircuit c) (fault : Fault) (start : List Ter
     silent = λ bits s agree avoids o. silent bits s agree avoids o;
   }
 
+  -- where cubes and steps pass, the cubes refute the fault from the start
   pub cubes_refute : CubesRefute c fault start cubes
   cubes_refute = record { cone = h.cone; is_cone = h.is_cone; starts = h.starts; kept = kept }

@@ -26,11 +26,13 @@ module _ (c : Netlist) (circuit : IsCircuit c) (fault : Fault) (cone : ℕ → B
       (next_outside c circuit fault cone is_cone.encloses (terns_of vector) s.good s.faulty agree)
       (kept.stays vector s agree avoids) t o h
 
+-- a fault that cubes refute is detected by no list from the start
 pub cubes_silent : (c : Netlist) (fault : Fault) (start : List Tern) (cubes : List (List Rail)) → IsCircuit c
     → CubesRefute c fault start cubes → (list : List (List Bool)) (t o : ℕ) → ¬ DetectsFrom c fault start list t o
 cubes_silent c fault start cubes circuit h list t o =
     runs_silent c circuit fault h.cone h.is_cone cubes h.kept list (both start) (λ j inside out. refl) h.starts t o
 
+-- a fault that cubes refute from a start is undetectable, from there and from all-unknown
 pub refuted_undetectable : (c : Netlist) (fault : Fault) (start : List Tern) (cubes : List (List Rail)) → IsCircuit c
     → IsStart c start → CubesRefute c fault start cubes → IsUndetectable c fault start
 refuted_undetectable c fault start cubes circuit is h = record {

@@ -9,6 +9,7 @@ use Rattle.std.proofs.lemmas.List.Elements.{All-nil, All-push, All-weaker, Conta
 use Rattle.ht_cubes.specs.declared.signed_var.SignedVar.{SignedVar}
 use Rattle.ht_cubes.specs.Values.{IsFalseIn, IsOpen, StandsSo}
 
+-- all of an empty clause is false
 pub stands_none : (values : List (Option Bool)) → StandsSo values [] None
 unfolding StandsSo
 stands_none values = All-nil (IsFalseIn values)
@@ -43,12 +44,14 @@ same_push values front l m so is = (
   All-push (λ (other : SignedVar). (other ≡ m) ⊎ IsFalseIn values other) front l so.2 (inl (sym is)),
 )
 
+-- a bit that isn't another is its complement
 pub other_value : (v b : Bool) → beq v b ≡ false → v ≡ not b
 other_value true true h = cc
 other_value true false h = refl
 other_value false true h = refl
 other_value false false h = cc
 
+-- two bits that the test finds the same are the same
 pub same_bit : (a b : Bool) → beq a b ≡ true → a ≡ b
 same_bit true true h = refl
 same_bit true false h = cc
@@ -69,6 +72,7 @@ module _ (values : List (Option Bool)) (clause : List SignedVar) (i : ℕ) (d : 
   one_more left so = let P : List SignedVar → Type 0 = λ front. StandsSo values front left in
       subst P (sym (take_more clause i d inside)) so
 
+  -- where the next of a clause is false, one more of the clause stands as those before
   pub stands_false : (left new : Option SignedVar) (v : Bool) → StandsSo values (take i clause) left
       → get_or values (get_or clause i d).variable None ≡ Some v → beq v (get_or clause i d).value ≡ false
       → new ≡ left → StandsSo values (take (i + 1) clause) new
@@ -77,6 +81,7 @@ module _ (values : List (Option Bool)) (clause : List SignedVar) (i : ℕ) (d : 
       subst P (sym is) (one_more left (false_push values (take i clause) (get_or clause i d) left so
       (at ∙ ap Some (other_value v (get_or clause i d).value differs))))
 
+  -- where all so far is false and the next has no value, one more of the clause leaves that next one
   pub stands_left : (left new : Option SignedVar) → StandsSo values (take i clause) left → left ≡ None
       → get_or values (get_or clause i d).variable None ≡ None
       → new ≡ Some (get_or clause i d) → StandsSo values (take (i + 1) clause) new
@@ -86,6 +91,7 @@ module _ (values : List (Option Bool)) (clause : List SignedVar) (i : ℕ) (d : 
       subst P (sym is) (one_more (Some (get_or clause i d))
       (left_push values (take i clause) (get_or clause i d) (subst Q none so) at))
 
+  -- where those so far leave one and the next is the same, one more of the clause leaves it still
   pub stands_same : (left new : Option SignedVar) (m : SignedVar) → StandsSo values (take i clause) left → left ≡ Some m
       → m ≡ get_or clause i d → new ≡ Some m → StandsSo values (take (i + 1) clause) new
   stands_same left new m so one same is =
@@ -96,6 +102,7 @@ module _ (values : List (Option Bool)) (clause : List SignedVar) (i : ℕ) (d : 
 
 -- ---- clauses that are open
 
+-- an element of the first n of a list is one of the list
 pub contains_take : {X : Type 0} (xs : List X) (n : ℕ) (x : X) → Contains (take n xs) x → Contains xs x
 contains_take {X} xs n x h = at xs n h.0 h.1 h.2
   where
@@ -113,12 +120,14 @@ stands_in : (values : List (Option Bool)) (clause : List SignedVar) (i : ℕ) (m
 unfolding StandsSo
 stands_in values clause i m so = (contains_take clause i m so.0, so.1)
 
+-- a clause in which one is true is open
 pub open_true : (values : List (Option Bool)) (clause : List SignedVar) (i : ℕ) (d : SignedVar) (v : Bool)
     → i < length clause → get_or values (get_or clause i d).variable None ≡ Some v
     → beq v (get_or clause i d).value ≡ true → IsOpen values clause
 open_true values clause i d v inside at same =
     inl (get_or clause i d, Contains-get_or clause i d inside, at ∙ ap Some (same_bit v (get_or clause i d).value same))
 
+-- a clause of which those so far leave one, and the next is another without a value, is open
 pub open_two : (values : List (Option Bool)) (clause : List SignedVar) (i : ℕ) (d m : SignedVar) (left : Option SignedVar)
     → i < length clause → StandsSo values (take i clause) left → left ≡ Some m
     → get_or values (get_or clause i d).variable None ≡ None → ¬ (m ≡ get_or clause i d) → IsOpen values clause

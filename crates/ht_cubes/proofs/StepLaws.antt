@@ -47,6 +47,7 @@ module _ (values : ℕ → Bool) where
         no_clash (facts ++ l ∷ []) (m ∷ hints)
         (more_facts facts l are (left_true facts (clause_at clauses n) l are (true_at n h.0) h.1.1)) h.1.2
 
+    -- a step that passes after true clauses is a true clause
     pub step_true : (step : ClauseStep) → StepPasses clauses step → IsTrueClause values step.literals
     step_true step passes =
         elim (cases_Bool (list_any (truth_of values) step.literals)) [
@@ -62,6 +63,7 @@ module _ (values : ℕ → Bool) where
               passes.clash)
         ]
 
+  -- steps that pass after true clauses are true clauses
   pub steps_true : (clauses : List (List SignedVar)) (steps : List ClauseStep) → AreTrueClauses values clauses
       → StepsPass clauses steps → All (λ (s : ClauseStep). IsTrueClause values s.literals) steps
   steps_true clauses [] given passes = All-nil (λ (s : ClauseStep). IsTrueClause values s.literals)

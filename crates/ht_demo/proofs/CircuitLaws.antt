@@ -31,31 +31,39 @@ module _ (size seed : ℕ) where
 
   -- ---- how many there are
 
+  -- there are as many gates as the size says
   pub gates_count : length demo.gates ≡ size
   gates_count = length-map-range_with_len gate_drawn 0 size
 
+  -- there is one flip-flop for every sixteen gates, and one more
   pub dffs_count : length demo.dffs ≡ dff_count size
   dffs_count = length-map-range_with_len (drawn_gate_net size (before_gate size)) 0 (dff_count size)
 
+  -- there is a name for each input, flip-flop and gate
   pub names_count : length demo.names ≡ first_gate size + size
   names_count = length-map-range_with_len (demo_name size) 0 (first_gate size + size)
 
+  -- the first gate's net has the number that the size gives
   pub first_is : first_gate_net demo ≡ first_gate size
   first_is = ap (λ n. input_count + n) dffs_count
 
+  -- there is a net for each input, flip-flop and gate
   pub nets_count : net_count demo ≡ first_gate size + size
   nets_count = omega (arith, first_is, gates_count)
 
   -- ---- what stands at a place
 
+  -- gate k is the one that is drawn after k others
   pub gate_is : (k : ℕ) → k < size → gate_at demo k ≡ gate_drawn k
   gate_is k below = get_or-map-range_with_len gate_drawn 0 size k k no_gate below (omega arith)
 
+  -- the data pin of flip-flop j reads the gate that is drawn for it after j others
   pub dff_is : (j : ℕ) → j < dff_count size → get_or demo.dffs j no_net ≡ drawn_gate_net size (before_gate size) j
   dff_is j below =
       get_or-map-range_with_len (drawn_gate_net size (before_gate size)) 0 (dff_count size) j j no_net below
       (omega arith)
 
+  -- each net has the name that its number gives
   pub name_is : (net : ℕ) (d : List ℕ) → net < first_gate size + size → get_or demo.names net d ≡ demo_name size net
   name_is net d below =
       get_or-map-range_with_len (demo_name size) 0 (first_gate size + size) net net d below (omega arith)
@@ -63,6 +71,7 @@ module _ (size seed : ℕ) where
   gate_has : (P : Gate → Type 0) (k : ℕ) → k < length demo.gates → P (gate_drawn k) → P (gate_at demo k)
   gate_has P k below holds = subst P (sym (gate_is k (omega (arith, gates_count)))) holds
 
+  -- no gate has more than two arguments
   pub few_arguments : (k : ℕ) → k < length demo.gates → length (gate_at demo k).args ≤ 2
   few_arguments k below = gate_has (λ gate. length gate.args ≤ 2) k below
       (let kind = kind_by_word (next_word (before_gate k)) in
@@ -95,6 +104,7 @@ module _ (size seed : ℕ) where
       (All-from_get_or (λ (gate : Gate). length gate.args ≤ 2) demo.gates no_gate few_arguments)
 
   module _ (some : 1 ≤ size) (few : size ≤ max_demo_size) where
+    -- a size within the limits gives at most 1,251 flip-flops
     pub few_dffs : dff_count size ≤ 1251
     few_dffs =
         let quotient : size / 16 ≤ 1250 = div-le_of_le-mul 16 (omega arith) in
@@ -109,6 +119,7 @@ module _ (size seed : ℕ) where
         let one : i ≡ j = one_net_per_name size i j (omega arith) (omega arith) (sym is_i ∙ (same ∙ is_j)) in
         absurd (omega arith)
 
+    -- the demonstration netlist is a well-formed circuit, for a size within the limits
     pub demo_is_circuit : IsCircuit demo
     demo_is_circuit =
         let dffs = few_dffs in
@@ -136,6 +147,7 @@ module _ (size seed : ℕ) where
           ranked = (λ k. k, ranks);
         }
 
+    -- all names of the demonstration netlist are names of the format, for a size within the limits
     pub demo_has_format_names : HasFormatNames demo
     demo_has_format_names =
         let dffs = few_dffs in

@@ -23,31 +23,38 @@ IsBelow nets net = net.0 < nets
 
 -- ---- gates
 
+-- the generator after k + 1 gates is the one after k gates and then one more
 pub after_gates_more : (k : ℕ) (g : Lcg) → after_gates (k + 1) g ≡ after_gate (after_gates k g)
 after_gates_more k g = rw add-one refl
 
+-- the argument that a word gives is one of the nets before the gate
 pub argument_is_below : (nets word : ℕ) → 1 ≤ nets → IsBelow nets (argument_by_word nets word)
 argument_is_below nets word some = omega arith
 
+-- all arguments that are drawn for a gate are nets before it
 pub arguments_are_below : (nets : ℕ) (kind : Kind) (g : Lcg) → 1 ≤ nets
     → All (IsBelow nets) (drawn_arguments nets kind g)
 arguments_are_below nets kind g some =
     All-map_always (IsBelow nets) (λ i. argument_by_word nets (next_word (after_words i g)))
     (λ i. argument_is_below nets _ some) (range_with_len 0 (argument_count kind))
 
+-- as many arguments are drawn as the kind has
 pub arguments_count : (nets : ℕ) (kind : Kind) (g : Lcg) → length (drawn_arguments nets kind g) ≡ argument_count kind
 arguments_count nets kind g =
     length-map-range_with_len (λ i. argument_by_word nets (next_word (after_words i g))) 0 (argument_count kind)
 
+-- each kind gets a number of arguments that it may have
 pub count_is_arity : (kind : Kind) → HasArity kind (argument_count kind)
 count_is_arity = by_kind (λ kind. HasArity kind (argument_count kind)) refl refl refl refl refl refl refl refl
 
+-- no kind gets more than two arguments
 pub at_most_two : (kind : Kind) → argument_count kind ≤ 2
 at_most_two = by_kind (λ kind. argument_count kind ≤ 2)
     (omega arith) (omega arith) (omega arith) (omega arith) (omega arith) (omega arith) (omega arith) (omega arith)
 
 -- ---- flip-flops and outputs
 
+-- the gate that a word gives drives a net of the netlist
 pub gate_is_below : (size word : ℕ) → 1 ≤ size → IsBelow (first_gate size + size) (gate_by_word size word)
 gate_is_below size word some =
     let small = mod_below word size some in
@@ -67,10 +74,12 @@ absent nets net none k d below same =
     (here.0, get_or nets k d, here.1, here.2, eq-eqb _ _ (ap (λ (n : NetId). n.0) same)))
 
 module _ (size : ℕ) (g : Lcg) where
+  -- before a word is drawn there is no output
   pub no_outputs : drawn_outputs size g 0 ≡ []
   unfolding drawn_outputs
   no_outputs = refl
 
+  -- one more word adds the gate that it gives to the outputs, unless it is one of them
   pub outputs_more : (n : ℕ)
       → drawn_outputs size g (n + 1) ≡ with_net (drawn_outputs size g n) (drawn_gate_net size g n)
   unfolding drawn_outputs
@@ -87,6 +96,7 @@ module _ (size : ℕ) (g : Lcg) where
       (λ is. outputs_differ n)
       (λ none. all_pairs_push (λ x y. x ≢ y) nets net (outputs_differ n) (absent nets net none))
 
+  -- all outputs that are drawn are nets of the netlist
   pub outputs_are_below : (n : ℕ) → 1 ≤ size → All (IsBelow (first_gate size + size)) (drawn_outputs size g n)
   unfolding drawn_outputs
   outputs_are_below zero some = All-nil (IsBelow (first_gate size + size))
@@ -99,6 +109,7 @@ module _ (size : ℕ) (g : Lcg) where
       (λ is. before)
       (λ none. All-push (IsBelow (first_gate size + size)) nets net before (gate_is_below size _ some))
 
+  -- n words give at most n outputs
   pub outputs_at_most : (n : ℕ) → length (drawn_outputs size g n) ≤ n
   unfolding drawn_outputs
   outputs_at_most zero = omega arith

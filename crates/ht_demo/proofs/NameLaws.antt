@@ -24,6 +24,7 @@ digit_is_name_byte (suc (suc (suc (suc (suc (suc (suc (suc zero)))))))) below = 
 digit_is_name_byte (suc (suc (suc (suc (suc (suc (suc (suc (suc zero))))))))) below = refl
 digit_is_name_byte (suc (suc (suc (suc (suc (suc (suc (suc (suc (suc n)))))))))) below = absurd (omega arith)
 
+-- the decimal digits of a number are bytes of a name
 pub digits_are_name_bytes : (n : ℕ) → n < 2 ^ 64 → list_all is_name_byte (decimal n) ≡ true
 digits_are_name_bytes n small =
     decimal_by_steps (λ m ds. list_all is_name_byte ds ≡ true)
@@ -102,6 +103,7 @@ one_net size x y p q same (inr (inr a)) (inr (inl b)) =
     other_form size x y 103 102 (first_gate size) input_count (λ e. omega arith) same a b
 one_net size x y p q same (inr (inr a)) (inr (inr b)) = same_form size x y 103 (first_gate size) p q same a b
 
+-- nets with the same name are the same
 pub one_net_per_name : (size x y : ℕ) → x < 2 ^ 64 → y < 2 ^ 64 → demo_name size x ≡ demo_name size y → x ≡ y
 one_net_per_name size x y p q same = one_net size x y p q same (has_form size x) (has_form size y)
 
@@ -123,6 +125,7 @@ name_of_forms size net small (inl is) = name_of_form size net 105 0 refl small i
 name_of_forms size net small (inr (inl is)) = name_of_form size net 102 input_count refl small is
 name_of_forms size net small (inr (inr is)) = name_of_form size net 103 (first_gate size) refl small is
 
+-- the name of a net is a name of the format, and has at most six bytes
 pub demo_name_is_name : (size net : ℕ) → net < 100000
     → (is_name (demo_name size net) ≡ true) × (length (demo_name size net) ≤ 6)
 demo_name_is_name size net small = name_of_forms size net small (has_form size net)

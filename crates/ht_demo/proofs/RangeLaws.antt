@@ -6,6 +6,7 @@ use Rattle.std.proofs.lemmas.List.Sums.{sum_by-cons}
 use Rattle.std.proofs.lemmas.Grind.{flat_map-append}
 use Rattle.std.proofs.lemmas.List.Elements.{All-head, All-tail, All-map}
 
+-- a function of two arguments gives the same for the same two
 pub ap2 : {A B C : Type 0} {a a' : A} {b b' : B} (f : A → B → C) → a ≡ a' → b ≡ b' → f a b ≡ f a' b'
 ap2 {a' = a'} {b = b} f left right = ap (λ x. f x b) left ∙ ap (f a') right
 
@@ -15,6 +16,7 @@ range_more a zero = ap (λ x. x ∷ []) (omega arith)
 range_more a (suc n) = ap (λ l. a ∷ l) (range_more (a + 1) n
     ∙ ap (λ x. range_with_len (a + 1) n ++ x ∷ []) (omega arith))
 
+-- the texts of the first n + 1 numbers are those of the first n and one more
 pub flat_map_more : (f : ℕ → List ℕ) (n : ℕ)
     → flat_map f (range_with_len 0 (n + 1)) ≡ flat_map f (range_with_len 0 n) ++ f n
 flat_map_more f n =
@@ -50,6 +52,7 @@ pub All-map_always : {A B : Type 0} (P : B → Type 0) (f : A → B) → ((x : A
     → (xs : List A) → All P (map f xs)
 All-map_always P f always xs = All-map P f xs (λ k d below. always (get_or xs k d))
 
+-- a test that holds of what each number below the end of a range gives holds of all that the range gives
 pub list_all_range : (p : List ℕ → Bool) (f : ℕ → List ℕ) (a n : ℕ)
     → ((k : ℕ) → k < a + n → p (f k) ≡ true) → list_all p (map f (range_with_len a n)) ≡ true
 list_all_range p f a zero each = refl
@@ -57,6 +60,7 @@ list_all_range p f a (suc n) each =
     ap (λ b. b && list_all p (map f (range_with_len (a + 1) n))) (each a (omega arith))
     ∙ ap (λ b. true && b) (list_all_range p f (a + 1) n (λ k below. each k (omega arith)))
 
+-- weights that are each at most a number add up to at most their count times that number
 pub sum_at_most : {A : Type 0} (weight : A → ℕ) (most : ℕ) (xs : List A) → All (λ x. weight x ≤ most) xs
     → sum_by weight xs ≤ length xs * most
 sum_at_most weight most [] all = omega arith

@@ -126,6 +126,7 @@ module _ (size seed : ℕ) (some : 1 ≤ size) (few : size ≤ max_demo_size) wh
   short_gates = over_range (λ k. drawn_gate_line size (first_gate size + k) (after_gates k (generator_of seed))) size
       short_gate
 
+  -- the text of the demonstration netlist is no longer than a netlist may be
   pub demo_is_short : length (normal_text (demo size seed)) ≤ max_netlist_bytes
   demo_is_short =
       let dffs = few_dffs size seed some few in

@@ -130,6 +130,7 @@ module _ (size seed : ℕ) (some : 1 ≤ size) where
       ∙ flat_map-map statement_line gate_statement (map gate_at_place (range_with_len 0 size))
       ∙ flat_map-map (λ (g : NamedGate). statement_line (gate_statement g)) gate_at_place (range_with_len 0 size)
 
+  -- the normal text is the lines of the inputs, outputs, flip-flops and gates, as they are drawn
   pub text_is : normal_text (demo size seed) ≡ demo_input_lines size input_count
       ++ demo_output_lines size (demo size seed).outputs
       ++ demo_dff_lines size (before_gate size seed size) (dff_count size)

@@ -25,6 +25,7 @@ value_plain Zero = refl
 value_plain One = refl
 value_plain Unk = refl
 
+-- the text of rows of one width is read as these rows, if it isn't too long
 pub written_is_read : (width : ℕ) (rows : List (List Tern)) → All (λ (row : List Tern). length row ≡ width) rows
     → length (response_text rows) ≤ max_text_bytes → IsResponseText width (length rows) (response_text rows) rows
 written_is_read width rows widths short = record {
@@ -34,11 +35,13 @@ written_is_read width rows widths short = record {
   short = short;
 }
 
+-- no line of the text of rows of one width is malformed, if it isn't too long
 pub written_no_line : (width n : ℕ) (rows : List (List Tern)) → All (λ (row : List Tern). length row ≡ width) rows
     → length (response_text rows) ≤ max_text_bytes → ¬ IsMalformedResponse width (length rows) (response_text rows) n
 written_no_line width n rows widths short =
     never_both width (length rows) (response_text rows) rows n (written_is_read width rows widths short)
 
+-- the text of what a machine shows over a list is read as these rows, if it isn't too long
 pub shown_is_read : (c : Netlist) (fault : Option Fault) (start : List Tern) (list : List (List Bool))
     → length (response_text (outputs_from c fault start list)) ≤ max_text_bytes
     → IsResponseText (length c.outputs) (length list) (response_text (outputs_from c fault start list))
@@ -54,6 +57,7 @@ text-append : (xs ys : List (List Tern)) → response_text (xs ++ ys) ≡ respon
 text-append xs ys = ap (flat_map with_lf) (map-append row_text xs ys)
     ∙ flat_map-append with_lf (map row_text xs) (map row_text ys)
 
+-- the text of the rows before the last, with that of the last row, is the text of all rows
 pub text_parts : (rows : List (List Tern))
     → response_text (rows_but_last rows) ++ response_text (last_row rows) ≡ response_text rows
 text_parts rows = sym (text-append (rows_but_last rows) (last_row rows))

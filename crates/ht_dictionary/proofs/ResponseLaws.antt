@@ -13,6 +13,7 @@ use Rattle.ht_texts.proofs.WrongLineLaws.{RightOrFirst, first_of_both, short_or_
 use Rattle.ht_dictionary.specs.ResponseTexts.{tern_code, row_text, AreFirstRows, IsRowText, IsResponseText, IsNoResponse, IsMissingResponse, IsWrongResponse, IsMalformedResponse}
 use Rattle.ht_dictionary.proofs.RowTextLaws.{value_or_none}
 
+-- a text is that of one list of rows at most
 pub one_list : (width vectors : ℕ) (text : List ℕ) (a b : List (List Tern)) → IsResponseText width vectors text a
     → IsResponseText width vectors text b → a ≡ b
 one_list width vectors text a b is_a is_b =
@@ -109,6 +110,7 @@ enough_or_missing vectors text = elim (cases_lt (length (lines_of text)) vectors
   )
 ]
 
+-- each text is that of some rows, or malformed at some line
 pub rows_or_line : (width vectors : ℕ) (text : List ℕ)
     → ((rows : List (List Tern)) × IsResponseText width vectors text rows)
     ⊎ ((n : ℕ) × IsMalformedResponse width vectors text n)
@@ -155,6 +157,7 @@ read_right width vectors text rows are few m upto bad = elim bad.wrong [
       })
 ]
 
+-- where the lines so far are right and the next one is wrong, the text is malformed at this line
 pub stopped_at : (width vectors : ℕ) (text : List ℕ) (rows : List (List Tern)) → AreFirstRows width text rows
     → length rows ≤ vectors → ((m : ℕ) → m ≤ length rows → ¬ IsTooLong text m)
     → IsWrongResponse width vectors text (length rows + 1)

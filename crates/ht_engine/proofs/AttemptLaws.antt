@@ -31,6 +31,7 @@ cube_long c told frame is =
     ap length is.cube
     ∙ length-map-range_with_len (λ j. or_unknown (decided_value (told_path told) (c.inputs + j))) 0 (length c.dffs)
 
+-- the vector of a told frame has a bit for each input
 pub vector_long : (c : Netlist) (told : Told) (frame : ToldFrame) → IsFrameOf c told frame
     → length frame.vector.items ≡ c.inputs
 vector_long c told frame is =
@@ -51,6 +52,7 @@ module _ (c : Netlist) (fault : Fault) (budget : ℕ) (told : Told) (j : ℕ) (a
   told_ahead (Closed tokens) h = (subst IsStateSpot (sym at) tt, h.walk)
   told_ahead (Spent tokens) h = (subst IsStateSpot (sym at) tt, h)
 
+  -- what the propagation from the states that a told frame leaves means, the search ahead of that frame means
   pub ahead_means : (good faulty : List Tern) → good ≡ told_state c None told
       → faulty ≡ told_state c (Some fault) told → (answer : Ahead) → AheadHolds c fault good faulty budget answer
       → AheadOfHolds c fault budget told answer
@@ -81,6 +83,7 @@ told_spot c z (Output o) h = tt
 told_spot c z (State j) h = tt
 told_spot c z Cube h = h
 
+-- all frames of a told chain are told at an output or at a next state, none at a cube
 pub chain_spots : (c : Netlist) (fault : Fault) (z : List ℕ) (chain : List Told)
     → AreChained (Tells c fault) z chain → AreFrameSpots chain
 chain_spots c fault z [] h = All-nil _

@@ -43,6 +43,7 @@ more_any representatives numbers n i (inl h) = (h.0, Contains-append_left number
 more_any representatives numbers n i (inr h) =
     (n, Contains-append_right numbers (n ∷ []) n (0, omega arith, refl), h)
 
+-- marks for some numbers, with the class of one number more marked, are the marks for all these numbers
 pub marks_more : (representatives numbers : List ℕ) (n : ℕ) (old new : List Bool)
     → MarksAny representatives numbers old → length new ≡ length old → MarksOneMore representatives n old new
     → MarksAny representatives (numbers ++ n ∷ []) new

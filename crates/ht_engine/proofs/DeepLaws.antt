@@ -28,6 +28,7 @@ pub if_ok_both : {T E : Type 0} (r : Result T E) (P Q R : T → Type 0) → ((x 
 if_ok_both (Ok x) P Q R f p q = f x p q
 if_ok_both (Err e) P Q R f p q = tt
 
+-- three facts of what a result holds give a fourth
 pub if_ok_three : {T E : Type 0} (r : Result T E) (P Q R S : T → Type 0) → ((x : T) → P x → Q x → R x → S x)
     → IfOk r P → IfOk r Q → IfOk r R → IfOk r S
 if_ok_three (Ok x) P Q R S f p q s = f x p q s
@@ -35,6 +36,7 @@ if_ok_three (Err e) P Q R S f p q s = tt
 
 -- ---- what the plain work gives on a fault that is left open
 
+-- if the rounds under the clauses leave the fault open, the attempt and the sweep give what the plain work gives
 pub open_work : (c : Netlist) (fault : Fault) (budget : ℕ) (invariant : Invariant)
     → StaysOpen c fault budget invariant.clauses → (w : Work) → IsListWork c fault budget w
     → IsWork c fault budget invariant w
@@ -48,6 +50,7 @@ open_work c fault budget invariant under (work.Entry (Aborted told walk aim walk
 -- ---- what the deep work gives
 
 module _ (c : Netlist) (fault : Fault) (settings : Settings) (states : window.Start) (invariant : Invariant) where
+  -- a refutation that the plain work gives is what the deep work gives
   pub refuted_deep : (entry : Entry) → IsWork c fault settings.budget invariant (work.Entry entry)
       → IsRefutation (work.Entry entry) → IsDeepWork c fault settings states invariant (work.Entry entry)
   refuted_deep (Untestable z tokens) is refutes = is
@@ -56,6 +59,7 @@ module _ (c : Netlist) (fault : Fault) (settings : Settings) (states : window.St
   refuted_deep (UndetectableByCubes cubes steps) is refutes = absurd is
   refuted_deep (Aborted told walk aim walks) is refutes = absurd (aborted_is_other refutes)
 
+  -- what the deep work gives on an open fault is its answer, if the rounds under the clauses leave the fault open
   pub open_deep : StaysOpen c fault settings.budget invariant.clauses → (w : Work)
       → IsOpenWork c fault settings states w → IsDeepWork c fault settings states invariant w
   open_deep under (work.List list) is = (under, is)
@@ -67,6 +71,7 @@ module _ (c : Netlist) (fault : Fault) (settings : Settings) (states : window.St
 
 -- ---- the sweep from the states reached
 
+-- what the sweep from the states reached gives holds as deep work, if the entry that it began with passes
 pub onward_holds : (c : Netlist) (fault : Fault) (settings : Settings) (states : window.Start) (good faulty : List Tern)
     (entry : Entry) → PassesAlways c fault settings.budget entry → (w : Work)
     → IsWorkOnward c fault settings.budget states entry w → ShowsOn c fault good faulty w
@@ -77,6 +82,7 @@ onward_holds c fault settings states good faulty entry passes (work.Entry given)
 
 -- ---- what it means
 
+-- an entry that the deep work gives passes for the start of the settings
 pub deep_passes : (c : Netlist) (fault : Fault) (settings : Settings) (good faulty : List Tern) (w : Work)
     → DeepWorkHolds c fault settings good faulty w → EntryPasses c fault settings w
 deep_passes c fault settings good faulty (work.List list) holds = tt
@@ -99,6 +105,7 @@ module _ (c : Netlist) (fault : Fault) (settings : Settings) (latches : IsStart 
     detects = shows_after c fault settings.start before list.list (length list.list - 1) h.output h.shows;
   }
 
+  -- a list of the plain work detects the fault from the start after any vectors, and its entry passes
   pub plain_after : (w : Work) → WorkHolds c fault settings.budget w → HoldsAfter c fault settings before w
   plain_after (work.List list) holds = always_after list holds
   plain_after (work.Entry entry) holds = holds settings.start
@@ -109,6 +116,7 @@ module _ (c : Netlist) (fault : Fault) (settings : Settings) (latches : IsStart 
   deep_after_these (work.List list) (inr ahead) = ahead_after list ahead
   deep_after_these (work.Entry entry) holds = holds
 
+  -- a list of the deep work detects the fault after the vectors that lead to its states, and its entry passes
   pub deep_after : (good faulty : List Tern) → good ≡ state_from c None settings.start before
       → faulty ≡ state_from c (Some fault) settings.start before → (w : Work)
       → DeepWorkHolds c fault settings good faulty w → HoldsAfter c fault settings before w

@@ -50,6 +50,7 @@ use Rattle.ht_engine.proofs.StepLaws.{awaited_before, contains_last, entries_mor
 
 -- ---- what is undetected
 
+-- a representative that is to be worked on is undetected exactly where no place is kept for it
 pub undetected_tells : (e : EngineView) (i : ℕ) (place : Option Place) (nowhere : Bool)
     → IsOwn e.circuit e.representatives i → IsChosen e.representatives e.settings i
     → place ≡ place_at e.grader.places i
@@ -101,6 +102,7 @@ module _ (e : EngineView) (steps : List Step) (s : EngineStandsFor e steps) wher
         (place_at e.grader.places i) a.undetected (first_graded e (vectors_of_steps steps) s.graded i a.own);
   }
 
+  -- the next undetected fault of an engine is the next that awaits its verdict after its steps
   pub is_next : (i : ℕ) → IsNextUndetected e i → IsNextFault e.circuit e.representatives e.settings steps i
   is_next i n = record {
     awaits = awaits_of i n.from n.undetected;
@@ -110,6 +112,7 @@ module _ (e : EngineView) (steps : List Step) (s : EngineStandsFor e steps) wher
     ];
   }
 
+  -- if no undetected fault is left from where the engine is on, no fault awaits its verdict
   pub none_awaits : ((k : ℕ) → e.place ≤ k → ¬ IsUndetected e k)
       → (k : ℕ) → ¬ AwaitsVerdict e.circuit e.representatives e.settings steps k
   none_awaits last k a = elim (le_or_lt e.place k) [
@@ -124,6 +127,7 @@ module _ (e : EngineView) (steps : List Step) (s : EngineStandsFor e steps) wher
       let empty = ap (λ (l : List (List Bool)). length l) (sym s.rest ∙ none) in
       omega (arith, cut, empty)
 
+  -- if no first vector is left, none is left after one step more
   pub none_more : (step : Step) → e.rest ≡ [] → e.rest ≡ drop (length (steps ++ step ∷ [])) (all_first e)
   none_more step none =
       let more = length-append steps (step ∷ []) in
@@ -222,6 +226,7 @@ module _ (e new : EngineView) (steps : List Step) (s : EngineStandsFor e steps) 
       let P : List Bool → Type 0 = λ (v : List Bool). length v ≡ e.circuit.inputs in
       subst (λ (r : Rows). AreVectors e.circuit r.list) (sym g.given) (All-cons P g.vector [] g.wide (All-nil P))
 
+  -- an engine that gives one of the first vectors may make that step next, and stands for the steps with it
   pub first_made : MakesStep e new steps (Vectors list)
   first_made =
       let long = length-append steps (Vectors list ∷ []) in
@@ -234,6 +239,7 @@ module _ (e new : EngineView) (steps : List Step) (s : EngineStandsFor e steps) 
             (awaited_before e.circuit e.representatives e.settings steps (Vectors list) k a)) list_wide;
       }
 
+  -- nothing is asked of a list that gives one of the first vectors
   pub first_means : MeansOfStep e steps (Vectors list)
   first_means = λ all. let some = some_left in absurd (omega (arith, all, some))
 
@@ -258,6 +264,7 @@ module _ (e new : EngineView) (steps : List Step) (s : EngineStandsFor e steps) 
   holds : DetectsAfter e.circuit (fault_at e.circuit g.fault) e.settings.start (vectors_of_steps steps) list
   holds = (g.work.after (vectors_of_steps steps) s.graded).holds
 
+  -- a list that is given for the next fault is useful: with it the vectors detect that fault from the start
   pub list_useful : MeansOfStep e steps (Vectors list)
   list_useful = λ all. record {
     fault = g.fault;
@@ -281,6 +288,7 @@ module _ (e new : EngineView) (steps : List Step) (s : EngineStandsFor e steps) 
         (awaited_before e.circuit e.representatives e.settings steps (Vectors list) k a)
   ]
 
+  -- an engine that gives a list for the next fault may make that step next, and stands for the steps with it
   pub list_made : MakesStep e new steps (Vectors list)
   list_made =
       let from = g.next.from in
@@ -421,6 +429,7 @@ module _ (e new : EngineView) (steps : List Step) (s : EngineStandsFor e steps) 
             (work.Entry made)) s.enough (g.work.after (vectors_of_steps steps) s.graded).enough);
       }
 
+  -- an engine that gives an entry for the next fault may make that step next, and stands for the steps with it
   pub entry_made : MakesStep e new steps (Entry fault made)
   entry_made = record {
     follows = entry_follows;
@@ -429,6 +438,7 @@ module _ (e new : EngineView) (steps : List Step) (s : EngineStandsFor e steps) 
 
 -- ---- the end
 
+-- an engine that ends is finished: no fault awaits its verdict, and it stands for the steps as they are
 pub end_made : (e new : EngineView) (steps : List Step) → EngineStandsFor e steps → Ends e new
     → Makes e new steps Finished
 end_made e new steps s g =
@@ -454,6 +464,7 @@ end_made e new steps s g =
 
 -- ---- any step
 
+-- an engine that advances by a step may make it after its steps and stands for them with it, or is finished
 pub makes : (old new : EngineView) (steps : List Step) → EngineStandsFor old steps → (step : Step)
     → Advances old new step → Makes old new steps step
 makes old new steps s (Vectors list) (inl g) = first_made old new steps s list g
@@ -461,6 +472,7 @@ makes old new steps s (Vectors list) (inr g) = list_made old new steps s list g
 makes old new steps s (Entry fault made) g = entry_made old new steps s fault made g
 makes old new steps s Finished g = end_made old new steps s g
 
+-- a list by which an engine advances after the first vectors is useful, and an entry passes
 pub means : (old new : EngineView) (steps : List Step) → EngineStandsFor old steps → (step : Step)
     → Advances old new step → MeansOfStep old steps step
 means old new steps s (Vectors list) (inl g) = first_means old new steps s list g
@@ -477,6 +489,7 @@ same_by old new grader kinds place rest is = record {
   settings = ap (λ (v : EngineView). v.settings) is;
 }
 
+-- a step leaves the circuit, the representatives and the settings of an engine as they are
 pub same_work : (old new : EngineView) (step : Step) → Advances old new step → HasSameWork old new
 same_work old new (Vectors list) (inl g) = same_by old new new.grader old.kinds old.place g.rest g.after
 same_work old new (Vectors list) (inr g) = same_by old new new.grader old.kinds (g.fault + 1) old.rest g.after
@@ -501,6 +514,7 @@ fewer_faults old new fault next left place same =
     let inside = next.inside in
     omega (arith, from, inside, rest, place, long)
 
+-- each step but the end leaves fewer steps to come
 pub nears : (old new : EngineView) (step : Step) → Advances old new step → step ≢ Finished
     → remaining new < remaining old
 nears old new (Vectors list) (inl g) other =
@@ -524,6 +538,7 @@ said_with c start steps i (Some kind.Untestable) is = is
 said_with c start steps i (Some kind.Undetectable) is = is
 said_with c start steps i (Some kind.Aborted) is = is
 
+-- what is said of a representative that no vectors detect is what the kind of its entry says, if it has one
 pub said_is : (e : EngineView) (steps : List Step) → EngineStandsFor e steps → (i : ℕ) → i < length e.representatives
     → IsOwn e.circuit e.representatives i → None ≡ place_at e.grader.places i
     → (kind : Option EntryKind) → kind_at e i ≡ kind → IsSaid e.circuit e.settings.start steps i (said_by kind)
@@ -535,6 +550,7 @@ said_is e steps s i l own here kind at =
     } in
     said_with e.circuit e.settings.start steps i kind is
 
+-- the place that is kept for a representative is the first where the vectors of the steps detect it
 pub said_detected : (e : EngineView) (steps : List Step) → EngineStandsFor e steps → (i : ℕ) (place : Place)
     → IsOwn e.circuit e.representatives i → Some place ≡ place_at e.grader.places i
     → IsFirstFrom e.circuit (fault_at e.circuit i) e.settings.start (vectors_of_steps steps) (Some place)
@@ -549,6 +565,7 @@ module _ (e now : EngineView) (listed : List Fault) (marks : List Bool) (is : Is
     known : IsEngine now listed marks
     known = subst (λ (v : EngineView). IsEngine v listed marks) at is
 
+    -- a fault that the list of representatives gives at its own index represents its class
     pub own_of : (i r : ℕ) → i < length now.representatives → r ≡ get_or e.representatives i 0 → r ≡ i
         → IsOwn now.circuit now.representatives i
     own_of i r l here own =
@@ -567,6 +584,7 @@ module _ (e now : EngineView) (listed : List Fault) (marks : List Bool) (is : Is
         (known.marks.chosen i l).0
         (get_or_default marks i false mark (omega (arith, l, each)) ∙ (sym got ∙ is))
 
+    -- the index of a representative is within the list of kinds
     pub room_of : (i : ℕ) → IsOwn now.circuit now.representatives i → i < length now.kinds
     room_of i own =
         let every = known.classes.every in
@@ -574,15 +592,18 @@ module _ (e now : EngineView) (listed : List Fault) (marks : List Bool) (is : Is
         let below = own.listed in
         omega (arith, every, kinds, below)
 
+    -- the index of a representative is within the list of representatives
     pub count_of : (i : ℕ) → IsOwn now.circuit now.representatives i → i < length now.representatives
     count_of i own = let every = known.classes.every in let below = own.listed in omega (arith, every, below)
 
+    -- the kind that is read at a representative's index is the one that the engine keeps for it
     pub kept_kind : (i : ℕ) (kind : Option EntryKind) → IsOwn now.circuit now.representatives i
         → kind ≡ get_or e.kinds i kind → kind_at now i ≡ kind
     kept_kind i kind own is =
         get_or_default now.kinds i None kind (room_of i own)
         ∙ (ap (λ (v : EngineView). get_or v.kinds i kind) (sym at) ∙ sym is)
 
+    -- the fault that is read at an index of the listed faults is the circuit's fault of that index
     pub fault_of : (i : ℕ) (f : Fault) → f ≡ get_or listed i no_fault → f ≡ fault_at now.circuit i
     fault_of i f got = got ∙ ap (λ (l : List Fault). get_or l i no_fault) known.faults
 

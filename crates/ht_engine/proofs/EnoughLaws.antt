@@ -52,6 +52,7 @@ sealed_under c fault z clauses seal = record {
 undetectable_is_other : kinds.Undetectable ≡ kinds.Untestable → ⊥
 undetectable_is_other is = cc
 
+-- the kind of an aborted fault isn't that of an untestable one
 pub aborted_is_other : kinds.Aborted ≡ kinds.Untestable → ⊥
 aborted_is_other is = cc
 
@@ -69,6 +70,7 @@ module _ (c : Netlist) (fault : Fault) (budget : ℕ) (circuit : IsCircuit c) wh
   ends chain (Some tokens) large is =
       absurd (one_frame_unspent c fault (states_of chain) budget tokens circuit large is.1)
 
+  -- no set seals a fault that the rounds leave open with a budget for the one-frame windows
   pub open_unsealed : (told : List Told) (walk : Option (List Token)) → IsOpenFault c fault budget told walk
       → refutation_cost c ≤ budget → (z : ℕ → Bool) → ¬ Sealed c fault z
   open_unsealed told walk left large z =
@@ -96,6 +98,7 @@ module _ (c : Netlist) (fault : Fault) (budget : ℕ) (circuit : IsCircuit c) wh
   refuted_undetected (UndetectableByCubes cubes steps) passes is = absurd (undetectable_is_other is)
   refuted_undetected (Aborted told walk aim walks) passes is = absurd (aborted_is_other is)
 
+  -- any budget is enough for an entry that says untestable and passes whatever the start
   pub enough_refuted : (clauses : List Clause) (entry : Entry) → PassesAlways c fault budget entry
       → IsRefutation (work.Entry entry) → IsEnough c fault budget clauses (work.Entry entry)
   enough_refuted clauses entry passes is = record {
@@ -109,6 +112,7 @@ module _ (c : Netlist) (fault : Fault) (budget : ℕ) (circuit : IsCircuit c) wh
   FindsShort w = (d : ℕ) (list : List (List Bool)) (t o : ℕ) → length list ≤ d → Detects c fault list t o
       → sweep_cost c.inputs d ≤ budget → IsList w
 
+  -- if d vectors detect the fault and the budget is enough for d frames, the attempt or the sweep finds a list
   pub short_found : (w : Work) → IsListWork c fault budget w → WorkHolds c fault budget w → FindsShort w
   short_found (work.List list) is holds d list' t o few detects large = tt
   short_found (work.Entry (Untestable z tokens)) is holds d list t o few detects large = is

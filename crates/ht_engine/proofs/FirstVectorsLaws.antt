@@ -48,6 +48,7 @@ module _ (a : Inside) (now : FirstView) (at : first_of_fields a ≡ now) where
       ap (λ (x : FirstView). x.random) (sym at)
       ∙ none_left random a.settings.now.random a.random (random_vectors_count a.width a.settings.now.random seed) over
 
+  -- if no given vector is left and a random one is, the one of the generator's words is drawn next
   pub random_drawn : a.random < a.settings.now.random → now.given ≡ []
       → a.words ≡ generator_after a.width a.random seed → (vector : List Bool) → vector ≡ random_vector a.width a.words
       → Draws now vector (record v { random = drop (a.random + 1) random })
@@ -74,6 +75,7 @@ module _ (a : Inside) (now : FirstView) (at : first_of_fields a ≡ now) where
       ∙ none_left weighted a.settings.now.weighted a.weighted
       (weighted_vectors_count a.width a.settings.now.weighted seed) over
 
+  -- if only weighted vectors are left, the one of the seed and the count is drawn next
   pub weighted_drawn : a.weighted < a.settings.now.weighted → now.given ≡ [] → now.random ≡ []
       → a.bursts ≡ record { width = a.width; seed = seed; count = a.weighted } → (vector : List Bool)
       → vector ≡ weighted_vector a.bursts.width a.bursts.count a.bursts.seed

@@ -46,6 +46,7 @@ opposite_more g b g' b' (inr e) (inl f) d = absurd (not_unknown g (subst (λ (x 
 opposite_more g b g' b' (inr e) (inr f) d =
     subst (λ (x : Tern). Opposite g' x) f (subst (λ (x : Tern). Opposite x b) e d)
 
+-- a fault that a list detects stays detected at that vector and output if more vectors come after
 pub detects_more : (c : Netlist) (fault : Fault) (s : List Tern) (list more : List (List Bool)) (t o : ℕ)
     → DetectsFrom c fault s list t o → DetectsFrom c fault s (list ++ more) t o
 detects_more c fault s list more t o d =

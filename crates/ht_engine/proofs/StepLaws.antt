@@ -28,12 +28,14 @@ use Rattle.ht_engine.proofs.MoreVectorsLaws.{undetected_before}
 
 -- ---- the vectors and the entries of one more step
 
+-- the vectors of steps with one more are those of the steps and then those of the last one
 pub vectors_more : (steps : List Step) (step : Step)
     → vectors_of_steps (steps ++ step ∷ []) ≡ vectors_of_steps steps ++ step_vectors step
 vectors_more steps step =
     flat_map-append step_vectors steps (step ∷ [])
     ∙ ap (λ (x : List (List Bool)). vectors_of_steps steps ++ x) (append-nil (step_vectors step))
 
+-- the entries of steps with one more are those of the steps and then that of the last one, if any
 pub entries_more : (steps : List Step) (step : Step)
     → entries_of (steps ++ step ∷ []) ≡ entries_of steps ++ step_entries step
 entries_more steps step =
@@ -45,6 +47,7 @@ pub entries_with_list : (steps : List Step) (list : Rows)
     → entries_of (steps ++ Vectors list ∷ []) ≡ entries_of steps
 entries_with_list steps list = entries_more steps (Vectors list) ∙ append-nil (entries_of steps)
 
+-- a step that gives an entry adds no vector
 pub vectors_with_entry : (steps : List Step) (fault : ℕ) (e : recorded.Entry)
     → vectors_of_steps (steps ++ Entry fault e ∷ []) ≡ vectors_of_steps steps
 vectors_with_entry steps fault e = vectors_more steps (Entry fault e) ∙ append-nil (vectors_of_steps steps)
@@ -54,12 +57,14 @@ numbered fault e = record { number = fault + 1; entry = e }
 
 -- ---- who has an entry
 
+-- a fault that has an entry has one if more entries come after
 pub has_left : (entries more : List Numbered) (k : ℕ) → HasEntry entries k → HasEntry (entries ++ more) k
 has_left entries more k h = record {
   entry = h.entry;
   among = Contains-append_left entries more (numbered k h.entry) h.among;
 }
 
+-- a list of entries contains the one at its end
 pub contains_last : (entries : List Numbered) (e : Numbered) → Contains (entries ++ e ∷ []) e
 contains_last entries e = Contains-append_right entries (e ∷ []) e (0, omega arith, refl)
 
@@ -71,6 +76,7 @@ same_number : (fault k : ℕ) (e f : recorded.Entry) → numbered fault e ≡ nu
 same_number fault k e f is =
     let n : fault + 1 ≡ k + 1 = ap (λ (x : Numbered). x.number) is in omega (arith, n)
 
+-- a fault that has an entry with one more had one before, or is the fault of the last one
 pub has_cases : (entries : List Numbered) (fault : ℕ) (e : recorded.Entry) (k : ℕ)
     → HasEntry (entries ++ numbered fault e ∷ []) k → HasEntry entries k ⊎ (k ≡ fault)
 has_cases entries fault e k h =
@@ -79,6 +85,7 @@ has_cases entries fault e k h =
       | inr b ↦ inr (same_number fault k e h.entry (only_at (numbered fault e) (numbered k h.entry) b.0 b.1 b.2))
     ]
 
+-- the fault of an entry that a last step gives has an entry
 pub has_last : (steps : List Step) (fault : ℕ) (e : recorded.Entry)
     → HasEntry (entries_of (steps ++ Entry fault e ∷ [])) fault
 has_last steps fault e = record {
@@ -89,6 +96,7 @@ has_last steps fault e = record {
 
 -- ---- who awaits its verdict after a step awaited it before
 
+-- a fault that awaits its verdict after a step awaited it before that step
 pub awaited_before : (c : Netlist) (representatives : List ℕ) (settings : Settings) (steps : List Step) (step : Step)
     (k : ℕ)
     → AwaitsVerdict c representatives settings (steps ++ step ∷ []) k → AwaitsVerdict c representatives settings steps k
@@ -198,6 +206,7 @@ after_step c representatives settings steps step (inl f) o =
 after_step c representatives settings steps step (inr f) o =
     after_work c representatives settings steps step f o
 
+-- the entries of steps rise, each of a representative below all faults that still await their verdict
 pub steps_in_order : (c : Netlist) (representatives : List ℕ) (settings : Settings)
     (steps : List Step) → AreSteps c representatives settings steps → AreInOrder c representatives settings steps
 steps_in_order c representatives settings steps none = record {
@@ -236,6 +245,7 @@ made_after c representatives settings steps step (inl f) =
     subst (λ (x : Step). All (IsMade c settings) (step_entries x)) (sym f.given) (All-nil _)
 made_after c representatives settings steps step (inr f) = made_more c representatives settings steps step f
 
+-- each entry of steps is what the work on its fault gave, after some vectors and with some invariant
 pub steps_made : (c : Netlist) (representatives : List ℕ) (settings : Settings) (steps : List Step)
     → AreSteps c representatives settings steps → All (IsMade c settings) (entries_of steps)
 steps_made c representatives settings steps none = All-nil _

@@ -51,6 +51,7 @@ row_rest line after row is e =
     append_cancel_left (codes "pairs ") after (decimal (row.dff + 1) ++ pairs_text row.set)
     (sym is ∙ e ∙ row_text_is row)
 
+-- rows with the same text are of the same flip-flop and have the same pairs
 pub rows_same : (row other : FamilyRow) → IsRowText row → IsRowText other → row_text row ≡ row_text other → row ≡ other
 rows_same row other h k e =
     let same = front_same (row.dff + 1) (other.dff + 1) (pairs_text row.set) (pairs_text other.set)
@@ -134,6 +135,7 @@ line_of_or_not bytes dff =
       ]
     ]
 
+-- bytes are the line of some flip-flop and its pairs, or of none
 pub row_or_not : (bytes : List ℕ) → ((row : FamilyRow) × IsRowText row × (bytes ≡ row_text row))
     ⊎ ((row : FamilyRow) → IsRowText row → bytes ≢ row_text row)
 row_or_not bytes = elim (some_below (IsLineOf bytes) (line_of_or_not bytes) max_number) [

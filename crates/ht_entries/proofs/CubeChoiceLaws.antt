@@ -174,6 +174,7 @@ module _ {A : Type 0} (text_of : A → List ℕ) (HasText : A → Type 0) (are :
     | inl after ↦ items_by word bytes after.0 after.1 (take_all text_of HasText are decide after.0)
   ]
 
+-- bytes are the line of some cube, or of none
 pub cube_or_not : (bytes : List ℕ) → ((cube : List Rail) × (IsCubeText cube × (bytes ≡ cube_text cube)))
     ⊎ ((cube : List Rail) → IsCubeText cube → bytes ≢ cube_text cube)
 cube_or_not bytes = elim (cases_lt MAX_PROOF_LINE_BYTES (length bytes)) [
@@ -204,6 +205,7 @@ step_by bytes text is short all = elim (hints_or_not all.rest) [
       )
 ]
 
+-- bytes are the line of some step, or of none
 pub step_or_not : (bytes : List ℕ) → ((step : ClauseStep) × (IsStepText step × (bytes ≡ step_text step)))
     ⊎ ((step : ClauseStep) → IsStepText step → bytes ≢ step_text step)
 step_or_not bytes = elim (cases_lt MAX_PROOF_LINE_BYTES (length bytes)) [

@@ -23,6 +23,7 @@ pub cube_has_text : (line : List ℕ) (cube : List Rail) → IsShortProofLine li
 cube_has_text line cube short is h =
     record { some = h.some; each = h.each; short = subst IsShortProofLine is short }
 
+-- a cube with a text has a rail, and each of its rails has a text
 pub rails_of_cube : (cube : List Rail) → IsCubeText cube → AreSome IsRailText cube
 rails_of_cube cube h = record { some = h.some; each = h.each }
 
@@ -32,6 +33,7 @@ pub parsed_cube : (line : List ℕ) (parsed : Option (List Rail)) → IsShortPro
 parsed_cube line None short none = λ cube h. none cube (rails_of_cube cube h)
 parsed_cube line (Some cube) short is = (is.0, cube_has_text line cube short is.0 is.1)
 
+-- cubes with the same text are the same
 pub cubes_same : (a b : List Rail) → IsCubeText a → IsCubeText b → cube_text a ≡ cube_text b → a ≡ b
 cubes_same a b h k e = items_after_same rail_text IsRailText rails_are_items (codes "never") a b h.each k.each e
 
@@ -55,11 +57,13 @@ literals_are line text rest literals step is taken none h e =
     (append_cancel_left (codes "step") text (flat_map (spaced signed_word) step.literals ++ hints_text step.hints)
     (sym is ∙ e))
 
+-- a line that doesn't begin with `step` is that of no step
 pub no_step_word : (line : List ℕ) → ((rest : List ℕ) → line ≢ codes "step" ++ rest) → (step : ClauseStep)
     → IsStepText step → line ≢ step_text step
 no_step_word line none step h e =
     none (flat_map (spaced signed_word) step.literals ++ hints_text step.hints) e
 
+-- a line with no hints after its signed variables is that of no step
 pub no_step : (line text rest : List ℕ) (literals : List SignedVar) → line ≡ codes "step" ++ text
     → AreTaken (spaced signed_word) IsSignedText text literals rest
     → HasNoItem (spaced signed_word) IsSignedText rest
@@ -68,6 +72,7 @@ pub no_step : (line text rest : List ℕ) (literals : List SignedVar) → line �
 no_step line text rest literals is taken none no_hints step h e =
     no_hints step.hints h.hints (literals_are line text rest literals step is taken none h e).rests
 
+-- a line of `step`, signed variables and hints is that of the step with these
 pub step_is_read : (line text rest : List ℕ) (literals : List SignedVar) (hints : List ℕ)
     → line ≡ codes "step" ++ text → AreTaken (spaced signed_word) IsSignedText text literals rest
     → rest ≡ hints_text hints → line ≡ step_text (step_of literals hints)
@@ -75,6 +80,7 @@ step_is_read line text rest literals hints is taken end =
     is ∙ ap (λ t. codes "step" ++ t)
     (taken.parts ∙ ap (λ t. flat_map (spaced signed_word) literals ++ t) end)
 
+-- a step has a text if its line is short and its signed variables and hints have one
 pub step_has_text : (line : List ℕ) (literals : List SignedVar) (hints : List ℕ) → IsShortProofLine line
     → line ≡ step_text (step_of literals hints) → All IsSignedText literals → AreHints hints
     → IsStepText (step_of literals hints)
@@ -84,6 +90,7 @@ step_has_text line literals hints short is each some =
 steps_alike : (a b : ClauseStep) → a.literals ≡ b.literals → a.hints ≡ b.hints → a ≡ b
 steps_alike a b l h = ap (λ x. step_of x a.hints) l ∙ ap (λ x. step_of b.literals x) h
 
+-- steps with the same text are the same
 pub steps_same : (a b : ClauseStep) → IsStepText a → IsStepText b → step_text a ≡ step_text b → a ≡ b
 steps_same a b h k e =
     let same = lists_same (spaced signed_word) IsSignedText signed_are_items a.literals b.literals

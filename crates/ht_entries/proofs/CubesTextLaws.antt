@@ -37,12 +37,15 @@ by_bytes (x ∷ xs) e =
 
 -- ---- numbers
 
+-- numbers that may stand in a text are the same if their decimal texts are
 pub numbers_same : (m n : ℕ) → IsNumber m → IsNumber n → decimal m ≡ decimal n → m ≡ n
 numbers_same m n h k e = decimal_injective m n (omega (arith, h.1)) (omega (arith, k.1)) e
 
+-- a number that may stand in a text has no space in its digits
 pub number_plain : (n : ℕ) → IsNumber n → All IsNoSpace (decimal n)
 number_plain n h = number_has_no_space n h.1
 
+-- numbers, each after a space, are items: a text begins with no two of them
 pub numbers_are_items : AreItems (spaced decimal) IsNumber
 numbers_are_items = words_are_items decimal IsNumber number_plain numbers_same
 
@@ -52,6 +55,7 @@ digits_begin : (ds rest : List ℕ) → 0 < length ds → AllDigits 10 ds
 digits_begin [] rest some h = absurd (omega (arith, some))
 digits_begin (d ∷ ds) rest some h = let d_is = digit_from_value d h.0 in (d_is.0, d_is.1)
 
+-- a text that begins with a number begins with a digit
 pub number_begins : (n : ℕ) (rest : List ℕ) → n ≤ max_number
     → (48 ≤ byte (decimal n ++ rest) 0) × (byte (decimal n ++ rest) 0 ≤ 57)
 number_begins n rest h =
@@ -63,6 +67,7 @@ number_begins n rest h =
 abbrev pub signed_of : ℕ → Bool → SignedVar
 signed_of variable value = record { variable = variable; value = value }
 
+-- a text that begins with a number doesn't begin with a hyphen
 pub no_minus : (n : ℕ) (rest more : List ℕ) → n ≤ max_number → decimal n ++ rest ≡ 45 ∷ more → ⊥
 no_minus n rest more h e = omega (arith, (number_begins n rest h).0, ap (λ t. byte t 0) e)
 
@@ -76,6 +81,7 @@ signs_same m n false false h k e = ap (λ x. signed_of x false) (numbers_same m 
 signs_same m n true false h k e = absurd (minus_number m n h.1 e)
 signs_same m n false true h k e = absurd (minus_number n m k.1 (sym e))
 
+-- signed variables with the same text are the same
 pub signed_same : (x y : SignedVar) → IsSignedText x → IsSignedText y → signed_word x ≡ signed_word y → x ≡ y
 signed_same x y h k e = signs_same x.variable y.variable x.value y.value h k e
 
@@ -83,9 +89,11 @@ sign_plain : (n : ℕ) (value : Bool) → IsNumber n → All IsNoSpace (signed_w
 sign_plain n true h = number_plain n h
 sign_plain n false h = All-cons IsNoSpace 45 (decimal n) (λ e. omega (arith, e)) (number_plain n h)
 
+-- the text of a signed variable has no space
 pub signed_plain : (x : SignedVar) → IsSignedText x → All IsNoSpace (signed_word x)
 signed_plain x h = sign_plain x.variable x.value h
 
+-- signed variables, each after a space, are items: a text begins with no two of them
 pub signed_are_items : AreItems (spaced signed_word) IsSignedText
 signed_are_items = words_are_items signed_word IsSignedText signed_plain signed_same
 
@@ -97,6 +105,7 @@ no_negative_of word digits is none n false counts e = none n counts (ap rest_of 
 no_negative_of word digits is none n true counts e =
     no_minus n [] digits counts.1 (append-nil (decimal n) ∙ sym e ∙ is)
 
+-- a hyphen and no number after it are no signed variable
 pub no_negative : (word digits : List ℕ) → word ≡ codes "-" ++ digits
     → ((n : ℕ) → IsNumber n → digits ≢ decimal n) → (x : SignedVar) → IsSignedText x → word ≢ signed_word x
 no_negative word digits is none x = no_negative_of word digits is none x.variable x.value
@@ -108,6 +117,7 @@ no_positive_of : (word : List ℕ) → ((rest : List ℕ) → word ≢ codes "-"
 no_positive_of word no_hyphen none n false counts e = no_hyphen (decimal n) e
 no_positive_of word no_hyphen none n true counts e = none n counts e
 
+-- a word that has no hyphen in front and is no number is no signed variable
 pub no_positive : (word : List ℕ) → ((rest : List ℕ) → word ≢ codes "-" ++ rest)
     → ((n : ℕ) → IsNumber n → word ≢ decimal n) → (x : SignedVar) → IsSignedText x → word ≢ signed_word x
 no_positive word no_hyphen none x = no_positive_of word no_hyphen none x.variable x.value
@@ -118,6 +128,7 @@ signed_begins : (n : ℕ) (value : Bool) (rest : List ℕ) → IsNumber n
 signed_begins n true rest h = (number_begins n rest h.1).1
 signed_begins n false rest h = omega arith
 
+-- the hints of a step begin with no signed variable
 pub by_is_no_signed : (hints : List ℕ) → HasNoItem (spaced signed_word) IsSignedText (hints_text hints)
 by_is_no_signed hints x rest h d e =
     omega (arith, signed_begins x.variable x.value rest h, ap (λ t. byte t 1) e)
@@ -137,17 +148,21 @@ module _ (word_of : Bool → List ℕ) where
   two_same differ false true h k e = absurd (differ e)
   two_same differ true false h k e = absurd (differ (sym e))
 
+-- the word of a machine has no space
 pub machine_plain : (faulty : Bool) → IsAnyBit faulty → All IsNoSpace (machine_word faulty)
 machine_plain = two_plain machine_word refl refl
 
+-- words of machines, each after a space, are items: a text begins with no two of them
 pub machines_are_items : AreItems (spaced machine_word) IsAnyBit
 machines_are_items =
     words_are_items machine_word IsAnyBit machine_plain
     (two_same machine_word (λ e. omega (arith, ap (λ t. byte t 0) e)))
 
+-- the word of a bit has no space
 pub bit_plain : (bit : Bool) → IsAnyBit bit → All IsNoSpace (bit_word bit)
 bit_plain = two_plain bit_word refl refl
 
+-- bits, each after a space, are items: a text begins with no two of them
 pub bits_are_items : AreItems (spaced bit_word) IsAnyBit
 bits_are_items =
     words_are_items bit_word IsAnyBit bit_plain (two_same bit_word (λ e. omega (arith, ap (λ t. byte t 0) e)))
@@ -197,11 +212,13 @@ number_then text after rest number rail h next e =
     numbers_are_items.same number (rail.dff + 1) after (bit_rest rail rest) next.has_text (number_of rail.dff h)
     next.ends (bit_delimits rail rest) (sym next.parts ∙ e)
 
+-- a text that begins with no machine begins with no rail
 pub no_machine_no_rail : (text : List ℕ) → HasNoItem (spaced machine_word) IsAnyBit text
     → HasNoItem rail_text IsRailText text
 no_machine_no_rail text none = λ rail rest h d e.
     none rail.faulty (number_rest rail rest) tt (number_delimits rail rest) (e ∙ rail_parts rail rest)
 
+-- a text with no number after its machine begins with no rail
 pub no_number_no_rail : (text after : List ℕ) (faulty : Bool)
     → IsNextItem (spaced machine_word) IsAnyBit text faulty after → HasNoItem (spaced decimal) IsNumber after
     → HasNoItem rail_text IsRailText text
@@ -209,6 +226,7 @@ no_number_no_rail text after faulty machine none = λ rail rest h d e.
     none (rail.dff + 1) (bit_rest rail rest) (number_of rail.dff h) (bit_delimits rail rest)
     (machine_then text after rest faulty rail machine e).rests
 
+-- a text with no bit after its machine and its number begins with no rail
 pub no_bit_no_rail : (text after end : List ℕ) (faulty : Bool) (number : ℕ)
     → IsNextItem (spaced machine_word) IsAnyBit text faulty after
     → IsNextItem (spaced decimal) IsNumber after number end → HasNoItem (spaced bit_word) IsAnyBit end
@@ -217,6 +235,7 @@ no_bit_no_rail text after end faulty number machine counts none = λ rail rest h
     none rail.value rest tt d
     (number_then after end rest number rail h counts (machine_then text after rest faulty rail machine e).rests).rests
 
+-- a text that begins with a machine, a number and a bit begins with their rail
 pub rail_is_next : (text after end rest : List ℕ) (faulty : Bool) (number : ℕ) (value : Bool)
     → IsNextItem (spaced machine_word) IsAnyBit text faulty after
     → IsNextItem (spaced decimal) IsNumber after number end → IsNextItem (spaced bit_word) IsAnyBit end value rest
@@ -256,6 +275,7 @@ rail_begins rail = (
   refl,
 )
 
+-- rails are items: a text begins with no two of them
 pub rails_are_items : AreItems rail_text IsRailText
 rails_are_items = record {
   begins = λ rail. rail_begins rail;

@@ -27,12 +27,14 @@ use Rattle.ht_entries.specs.ProofLines.{line_text, max_number}
 abbrev pub byte : List ℕ → ℕ → ℕ
 byte text i = get_or text i 0
 
+-- numbers up to the greatest in a text are the same if their decimal texts are
 pub numbers_same : (m n : ℕ) → m ≤ max_number → n ≤ max_number → decimal m ≡ decimal n → m ≡ n
 numbers_same m n h i e = decimal_injective m n (omega (arith, h)) (omega (arith, i)) e
 
 no_48 : ◌≡◌ {A = ℕ} 48 49 → ⊥
 no_48 e = omega (arith, e)
 
+-- bits with the same character are the same
 pub bits_same : (b c : Bool) → bit_code b ≡ bit_code c → b ≡ c
 bits_same false false e = refl
 bits_same true true e = refl
@@ -46,6 +48,7 @@ rest_of (x ∷ xs) = xs
 empty_is_not : (x : ℕ) (xs : List ℕ) → [] ≡ x ∷ xs → ⊥
 empty_is_not x xs e = cc
 
+-- vectors with the same characters are the same
 pub codes_same : (v w : List Bool) → vector_text v ≡ vector_text w → v ≡ w
 codes_same [] [] e = refl
 codes_same [] (c ∷ w) e = absurd (empty_is_not (bit_code c) (vector_text w) e)
@@ -68,6 +71,7 @@ after_plain (x ∷ xs) rest plain =
 pub after_number : (n : ℕ) (rest : List ℕ) → n ≤ max_number → after_space (decimal n ++ 32 ∷ rest) ≡ rest
 after_number n rest h = after_plain (decimal n) rest (number_has_no_space n h)
 
+-- lines that begin an entry and have the same text have the same number
 pub entry_number : (m n : ℕ) (rest more : List ℕ) → m ≤ max_number → n ≤ max_number
     → codes "entry " ++ (decimal m ++ 32 ∷ rest) ≡ codes "entry " ++ (decimal n ++ 32 ∷ more) → m ≡ n
 entry_number m n rest more h k e =
@@ -75,6 +79,7 @@ entry_number m n rest more h k e =
     (parts_same (decimal m) (decimal n) rest more (number_has_no_space m h) (number_has_no_space n k)
     (append_cancel_left (codes "entry ") (decimal m ++ 32 ∷ rest) (decimal n ++ 32 ∷ more) e)).fronts
 
+-- lines of a refutation from a state with the same text are the same
 pub from_state_same : (x y : FromStateLine) → IsFromStateLine x → IsFromStateLine y
     → line_text (line.FromState x) ≡ line_text (line.FromState y) → x ≡ y
 from_state_same (form.Begins m s) (form.Begins n t) h k e =
@@ -84,6 +89,7 @@ from_state_same (form.Begins m s) (form.Clause first second) h k e = absurd (ome
 from_state_same (form.Clause first second) (form.Begins m s) h k e = absurd (omega (arith, ap (λ t. byte t 0) e))
 from_state_same (form.Clause a b) (form.Clause first second) h k e = clauses_same a first b second h k e
 
+-- lines of an entry by sets with the same text are the same
 pub by_sets_same : (x y : BySetsLine) → IsBySetsLine x → IsBySetsLine y
     → line_text (line.BySets x) ≡ line_text (line.BySets y) → x ≡ y
 by_sets_same (sets.Begins m) (sets.Begins n) h k e =
@@ -92,6 +98,7 @@ by_sets_same (sets.Begins m) (sets.Pairs row) h k e = absurd (omega (arith, ap (
 by_sets_same (sets.Pairs row) (sets.Begins n) h k e = absurd (omega (arith, ap (λ t. byte t 0) e))
 by_sets_same (sets.Pairs row) (sets.Pairs other) h k e = ap sets.Pairs (rows_same row other h k e)
 
+-- lines of an entry by cubes with the same text are the same
 pub by_cubes_same : (x y : ByCubesLine) → IsByCubesLine x → IsByCubesLine y
     → line_text (line.ByCubes x) ≡ line_text (line.ByCubes y) → x ≡ y
 by_cubes_same (cubes.Begins m) (cubes.Begins n) h k e =

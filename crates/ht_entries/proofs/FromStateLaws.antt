@@ -26,6 +26,7 @@ use Rattle.ht_entries.proofs.GrowLaws.{where_is, mapped_is, grown_end, map_one, 
 abbrev with_token : Clause → Token → Clause
 with_token clause t = record clause { tokens = clause.tokens ++ t ∷ [] }
 
+-- a token more goes to the end of the last clause's walk
 pub add_clause_token_last : (front : List Clause) (last : Clause) (t : Token)
     → add_clause_token (front ++ last ∷ []) t ≡ Some (front ++ with_token last t ∷ [])
 add_clause_token_last [] last t = refl
@@ -234,6 +235,7 @@ grow_by_walk : (p : FromStatePart) (walk : Option (List Token)) (l : ProofLine) 
 grow_by_walk p None l q h walk i e = grow_before_walk_is p l q h walk i e
 grow_by_walk p (Some tokens) l q h walk i e = grow_window_walk_is p tokens l q h walk i e
 
+-- a line that a refutation from a state takes is one line more of it
 pub grow_from_state_is : (p : FromStatePart) (l : ProofLine) (q : FromStatePart) → IsFromStateText p → IsProofLine l
     → grow_from_state p l ≡ Some q → FromStateGrows p l q
 grow_from_state_is p l q h i e = grow_by_walk p p.walk l q h refl i e

@@ -43,6 +43,7 @@ pub record SameLiteral (l m : Literal) (rest more : List ℕ) : Type 0 where
   pub literals : l ≡ m
   pub rests : rest ≡ more
 
+-- equal texts that begin with a literal begin with the same one and have the same rest
 pub literal_front_same : (l m : Literal) (rest more : List ℕ) → IsIndex l.dff → IsIndex m.dff
     → literal_text l ++ rest ≡ literal_text m ++ more → SameLiteral l m rest more
 literal_front_same l m rest more h k e =
@@ -102,6 +103,7 @@ second_is_read : (second : Option Literal) (rest : List ℕ) (first : Literal) �
 second_is_read None rest first more none h = more
 second_is_read (Some l) rest first more none h = none l h
 
+-- a line on which the first literal is followed by something other than a second is that of no clause
 pub no_clause : (line literals rest : List ℕ) (first : Literal) → line ≡ codes "clause " ++ literals
     → IsIndex first.dff → literals ≡ literal_text first ++ rest → rest ≢ []
     → ((l : Literal) → IsSecondText first (Some l) → rest ≢ second_text (Some l)) → IsNoClauseLine line
@@ -122,6 +124,7 @@ seconds_same first (Some l) (Some m) h k e =
     ap Some (literal_front_same l m [] [] h.1 k.1
     (append-nil (literal_text l) ∙ ap rest_of e ∙ sym (append-nil (literal_text m)))).literals
 
+-- lines of clauses with the same text are the same
 pub clauses_same : (first other : Literal) (a b : Option Literal) → IsFromStateLine (form.Clause first a)
     → IsFromStateLine (form.Clause other b)
     → from_state_text (form.Clause first a) ≡ from_state_text (form.Clause other b)
@@ -137,6 +140,7 @@ clauses_same first other a b h k e =
 
 -- ---- the first line
 
+-- the first line is `entry`, the number, and the state after `untestable from`
 pub first_text_is : (n : ℕ) (bits : List ℕ) → first_text n bits
     ≡ codes "entry " ++ (decimal n ++ codes " " ++ (codes "untestable from " ++ bits))
 first_text_is n bits = ap (λ t. codes "entry " ++ t)
@@ -153,6 +157,7 @@ pub record SameFirst (m n : ℕ) (bits others : List ℕ) : Type 0 where
   pub numbers : m ≡ n
   pub states : bits ≡ others
 
+-- first lines with the same text have the same number and the same characters of a state
 pub first_text_same : (m n : ℕ) (bits others : List ℕ) → IsNumber m → IsNumber n
     → first_text m bits ≡ first_text n others → SameFirst m n bits others
 first_text_same m n bits others h k e =
@@ -165,6 +170,7 @@ first_text_same m n bits others h k e =
       states = append_cancel_left (codes "untestable from ") bits others same.rests;
     }
 
+-- a line without a number and a space after `entry` begins no refutation from a state
 pub no_first_number : (line after : List ℕ) → line ≡ codes "entry " ++ after
     → ((n : ℕ) (rest : List ℕ) → IsNumber n → after ≢ decimal n ++ codes " " ++ rest)
     → (n : ℕ) (bits : List ℕ) → IsNumber n → line ≢ first_text n bits
@@ -173,6 +179,7 @@ no_first_number line after is none n bits h e =
     (append_cancel_left (codes "entry ") after (decimal n ++ codes " " ++ (codes "untestable from " ++ bits))
     (sym is ∙ e ∙ first_text_is n bits))
 
+-- a line without `untestable from` after its number begins no refutation from a state
 pub no_first_word : (line after rest : List ℕ) (m : ℕ) → line ≡ codes "entry " ++ after → IsNumber m
     → after ≡ decimal m ++ codes " " ++ rest → ((bits : List ℕ) → rest ≢ codes "untestable from " ++ bits)
     → (n : ℕ) (bits : List ℕ) → IsNumber n → line ≢ first_text n bits
@@ -182,6 +189,7 @@ no_first_word line after rest m is counts at none n bits h e =
     (sym is ∙ e ∙ first_text_is n bits) in
     none bits (number_front_same m n rest (codes "untestable from " ++ bits) counts.1 h.1 (sym at ∙ texts)).rests
 
+-- a line that ends with the characters of no state begins no refutation from a state
 pub no_first_state : (line bits : List ℕ) (m : ℕ) → IsNumber m → line ≡ first_text m bits
     → ((state : List Bool) → IsStateText state → bits ≢ vector_text state) → IsNoFirstLine line
 no_first_state line bits m counts is none n state h e =

@@ -58,6 +58,7 @@ pub record TakesAll {A : Type 0} (text_of : A → List ℕ) (HasText : A → Typ
   pub none : HasNoItem text_of HasText rest
 
 module _ {A : Type 0} (text_of : A → List ℕ) (HasText : A → Type 0) (are : AreItems text_of HasText) where
+  -- a word may end where an item begins
   pub item_delimits : (x : A) (rest : List ℕ) → IsDelimited (text_of x ++ rest)
   item_delimits x rest =
       let b = are.begins x in inr (b.0 ++ rest, ap (λ t. t ++ rest) b.1)
@@ -76,6 +77,7 @@ module _ {A : Type 0} (text_of : A → List ℕ) (HasText : A → Type 0) (are :
   is_delimited x xs rest (inl e) = absurd (omega (arith, ap length e))
   is_delimited x xs rest (inr d) = d
 
+  -- equal texts of items, each up to a rest that begins with none, have the same items and the same rest
   pub lists_same : (xs ys : List A) (rest more : List ℕ) → All HasText xs → All HasText ys
       → (xs ≡ []) ⊎ IsDelimited rest → (ys ≡ []) ⊎ IsDelimited more → HasNoItem text_of HasText rest
       → HasNoItem text_of HasText more → flat_map text_of xs ++ rest ≡ flat_map text_of ys ++ more
@@ -107,9 +109,11 @@ module _ {A : Type 0} (text_of : A → List ℕ) (HasText : A → Type 0) (are :
 
   -- ---- taken one after the other
 
+  -- before any item is taken from a text, the whole text is left
   pub none_taken : (text : List ℕ) → AreTaken text_of HasText text [] text
   none_taken text = record { parts = refl; each = All-nil HasText; ends = inl refl }
 
+  -- with the next item of what is left, one item more is taken
   pub one_taken : (text rest after : List ℕ) (xs : List A) (x : A) → AreTaken text_of HasText text xs rest
       → IsNextItem text_of HasText rest x after → AreTaken text_of HasText text (xs ++ x ∷ []) after
   one_taken text rest after xs x h next = record {
@@ -121,6 +125,7 @@ module _ {A : Type 0} (text_of : A → List ℕ) (HasText : A → Type 0) (are :
     ends = inr next.ends;
   }
 
+  -- less is left after an item than before it
   pub taking_is_shorter : (rest after : List ℕ) (x : A) → IsNextItem text_of HasText rest x after
       → length after < length rest
   taking_is_shorter rest after x next =
@@ -135,6 +140,7 @@ module _ {A : Type 0} (text_of : A → List ℕ) (HasText : A → Type 0) (are :
   taken_are text rest more xs ys h none each d at_end e =
       lists_same xs ys rest more h.each each h.ends (inr d) none at_end (sym h.parts ∙ e)
 
+  -- if all items are taken from the text of a list of items, they are that list, and nothing is left
   pub all_taken : (text rest : List ℕ) (xs ys : List A) → AreTaken text_of HasText text xs rest
       → HasNoItem text_of HasText rest → All HasText ys → text ≡ flat_map text_of ys → SameItem xs ys rest []
   all_taken text rest xs ys h none each e =
@@ -154,12 +160,14 @@ module _ {A : Type 0} (text_of : A → List ℕ) (HasText : A → Type 0) (are :
         | inr more ↦ more same.rests
       ]
 
+  -- a line with nothing left after a word and items is the text of the word and these items
   pub items_after_are_read : (word line text rest : List ℕ) (xs : List A) → line ≡ word ++ text
       → AreTaken text_of HasText text xs rest → rest ≡ [] → line ≡ word ++ flat_map text_of xs
   items_after_are_read word line text rest xs is taken end =
       is ∙ ap (λ t. word ++ t)
       (taken.parts ∙ ap (λ t. flat_map text_of xs ++ t) end ∙ append-nil (flat_map text_of xs))
 
+  -- lines of one word and items with the same text have the same items
   pub items_after_same : (word : List ℕ) (xs ys : List A) → All HasText xs → All HasText ys
       → word ++ flat_map text_of xs ≡ word ++ flat_map text_of ys → xs ≡ ys
   items_after_same word xs ys h k e =
@@ -179,6 +187,7 @@ module _ {A : Type 0} (text_of : A → List ℕ) (HasText : A → Type 0) (are :
         (one_taken text rest found.after xs found.item taken found.is)
   ]
 
+  -- if each text begins with an item or with none, all items in front of a text can be taken
   pub take_all : ((text : List ℕ) → SomeItem text_of HasText text ⊎ HasNoItem text_of HasText text) → (text : List ℕ)
       → TakesAll text_of HasText text
   take_all decide text = take_on decide (suc (length text)) text text [] (omega arith) (none_taken text)
@@ -187,6 +196,7 @@ module _ {A : Type 0} (text_of : A → List ℕ) (HasText : A → Type 0) (are :
 
 module _ {A : Type 0} (word_of : A → List ℕ) (HasText : A → Type 0)
     (plain : (x : A) → HasText x → All IsNoSpace (word_of x)) where
+  -- words without a space are items when each is put after one, if no two values have the same word
   pub words_are_items : ((x y : A) → HasText x → HasText y → word_of x ≡ word_of y → x ≡ y)
       → AreItems (spaced word_of) HasText
   words_are_items same = record {
@@ -196,16 +206,19 @@ module _ {A : Type 0} (word_of : A → List ℕ) (HasText : A → Type 0)
         record { items = same x y h k s.fronts; rests = s.rests };
   }
 
+  -- a text that doesn't begin with a space begins with no item
   pub no_space_no_item : (text : List ℕ) → ((rest : List ℕ) → text ≢ 32 ∷ rest)
       → HasNoItem (spaced word_of) HasText text
   no_space_no_item text none = λ x rest h d e. none (word_of x ++ rest) e
 
+  -- a text whose next word is no value's begins with no item
   pub no_word_no_item : (text word rest : List ℕ) → IsNextWord text word rest
       → ((x : A) → HasText x → word ≢ word_of x) → HasNoItem (spaced word_of) HasText text
   no_word_no_item text word rest w none = λ x more h d e.
       none x h (words_same word (word_of x) rest more w.no_space (plain x h) w.ends d
       (ap rest_of (sym w.parts ∙ e))).fronts
 
+  -- a text whose next word is that of a value begins with its item
   pub word_is_item : (text word rest : List ℕ) (x : A) → IsNextWord text word rest → word ≡ word_of x → HasText x
       → IsNextItem (spaced word_of) HasText text x rest
   word_is_item text word rest x w same h = record {
@@ -250,6 +263,7 @@ pub record SomeWord (text : List ℕ) : Type 0 where
   pub rest : List ℕ
   pub is : IsNextWord text word rest
 
+-- each text has a next word, or doesn't begin with a space
 pub word_or_not : (text : List ℕ) → SomeWord text ⊎ ((rest : List ℕ) → text ≢ 32 ∷ rest)
 word_or_not [] = inr (λ rest e. omega (arith, ap length e))
 word_or_not (x ∷ text) = elim (cases_eq x 32) [
@@ -297,6 +311,7 @@ rest_delimits rest (Some k) at =
       drop-cons rest k 0 here.0 ∙ ap (λ x. x ∷ drop (suc k) rest) (eqb-true (get_or rest k 0) 32 here.1),
     )
 
+-- after a space, what comes up to the next space or the end is the next word
 pub first_word : (text rest : List ℕ) (end : ℕ) → text ≡ 32 ∷ rest
     → end ≡ unwrap_or (position is_space rest) (length rest)
     → IsNextWord text (take end rest) (take (length rest - end) (drop end rest))

@@ -17,6 +17,7 @@ use Rattle.ht_entries.specs.ParsedLines.{IsParsed}
 
 -- ---- texts
 
+-- the text of two lists of pairs joined is that of the first and then that of the second
 pub pairs_append : (set more : List Pair) → pairs_text (set ++ more) ≡ pairs_text set ++ pairs_text more
 pairs_append [] more = refl
 pairs_append (p ∷ set) more =
@@ -41,6 +42,7 @@ first_pair_same p q rest more e =
 no_pair : (p : Pair) (rest : List ℕ) → [] ≡ pairs_text (p ∷ []) ++ rest → ⊥
 no_pair p rest e = cc
 
+-- lists of pairs with the same text are the same
 pub pairs_same : (set other : List Pair) → pairs_text set ≡ pairs_text other → set ≡ other
 pairs_same [] [] e = refl
 pairs_same [] (q ∷ other) e = absurd (no_pair q (pairs_text other) e)
@@ -61,12 +63,14 @@ abbrev pub AreDistinct : List Pair → Type 0
 AreDistinct [] = Unit {0}
 AreDistinct (p ∷ left) = (is_member p left ≡ false) × AreDistinct left
 
+-- the list of all pairs has no pair twice
 pub all_distinct : AreDistinct all_pairs
 all_distinct = (refl, (refl, (refl, (refl, (refl, (refl, (refl, (refl, (refl, tt)))))))))
 
 no_member : (p : Pair) (set : List Pair) → set ≡ [] → IsMember p set → ⊥
 no_member p set e h = subst (IsMember p) e h
 
+-- a pair of a list within others is one of the others
 pub within_holds : (p : Pair) (set left : List Pair) → IsWithin set left → IsMember p set → IsMember p left
 within_holds p set [] w h = absurd (no_member p set w h)
 within_holds p set (q ∷ left) (inl w) h = inr (within_holds p set left w h)
@@ -112,6 +116,7 @@ members_again (p ∷ left) d set (inr w) =
     ∙ ap (λ l. p ∷ l) (others ∙ members_again left (d.1) t (w.2))
     ∙ sym (w.1)
 
+-- a list of pairs in the order of all pairs is the set of its pairs
 pub in_order : (set : List Pair) → IsWithin set all_pairs → set ≡ set_of set
 unfolding set_of
 in_order set w = sym (members_again all_pairs all_distinct set w)
@@ -129,6 +134,7 @@ set_within : (set : List Pair) → IsWithin (set_of set) all_pairs
 unfolding set_of
 set_within set = filter_within (λ p. is_member p set) all_pairs
 
+-- a list that is the set of its pairs is in the order of all pairs
 pub is_within : (set : List Pair) → set ≡ set_of set → IsWithin set all_pairs
 is_within set e = subst (λ s. IsWithin s all_pairs) (sym e) (set_within set)
 
@@ -137,6 +143,7 @@ few_within set [] w = omega (arith, ap length w)
 few_within set (p ∷ left) (inl w) = omega (arith, few_within set left w)
 few_within set (p ∷ left) (inr w) = omega (arith, ap length (w.1), few_within w.0 left w.2)
 
+-- a set has at most nine pairs
 pub at_most_nine : (set : List Pair) → set ≡ set_of set → length set ≤ 9
 at_most_nine set e = few_within set all_pairs (is_within set e)
 
@@ -163,6 +170,7 @@ pub record ReadsPairs (text rest : List ℕ) (set : Option (List Pair)) (left : 
   pub others : (set : List Pair) → set ≡ set_of set → text ≡ pairs_text set
       → (more : List Pair) × (rest ≡ pairs_text more) × IsWithin more left
 
+-- before its first pair is read, a whole text is left, no set is kept, and all pairs are to be tried
 pub begins_reading : (text : List ℕ) → ReadsPairs text text None all_pairs
 begins_reading text = record {
   taken = [];
@@ -285,15 +293,18 @@ set_is_read text set h =
 abbrev pub written : List Pair → List Pair → List Pair
 written set left = filter (λ p. is_member p set) left
 
+-- of all pairs, those that a set has are written as the set is
 pub all_written : (set : List Pair) → set ≡ set_of set → pairs_text (written set all_pairs) ≡ pairs_text set
 unfolding set_of
 all_written set e = ap pairs_text (sym e)
 
+-- a next pair that the set has is written before those after it
 pub writes_pair : (set : List Pair) (p : Pair) (left : List Pair) → IsMember p set
     → pairs_text (written set (p ∷ left)) ≡ pairs_text (p ∷ []) ++ pairs_text (written set left)
 writes_pair set p left h =
     ap pairs_text (cond-true (is_member p set) (p ∷ written set left) (written set left) (is_member-from p set h))
 
+-- nothing is written for a next pair that the set doesn't have
 pub writes_none : (set : List Pair) (p : Pair) (left : List Pair) → (IsMember p set → ⊥)
     → pairs_text (written set (p ∷ left)) ≡ pairs_text (written set left)
 writes_none set p left none = ap pairs_text (cond-false (is_member p set) (p ∷ written set left) (written set left)
@@ -317,6 +328,7 @@ next_left table k any below =
 none_left : (table : List (Tern × Tern)) (k : ℕ) → length table ≤ k → left_of table k ≡ []
 none_left table k beyond = ap (map (λ (row : Tern × Tern). pair row.0 row.1)) (drop_of_length-le table beyond)
 
+-- where the pair of a row comes next in the text, it is taken, and the rows after it are left
 pub takes_next : (text rest after now : List ℕ) (set more : Option (List Pair)) (table : List (Tern × Tern)) (k : ℕ)
     (any : Tern × Tern) → k < length table → ReadsPairs text rest set (left_of table k)
     → rest ≡ pairs_text (pair_at table k any ∷ []) ++ after
@@ -328,6 +340,7 @@ takes_next text rest after now set more table k any below h is grown same =
     (takes_pair text rest after set (pair_at table k any) (left_of table (k + 1))
     (subst (ReadsPairs text rest set) (next_left table k any below) h) is))
 
+-- where the pair of a row doesn't come next in the text, it is passed, and the rows after it are left
 pub passes_next : (text rest now : List ℕ) (set more : Option (List Pair)) (table : List (Tern × Tern)) (k : ℕ)
     (any : Tern × Tern) → k < length table → ReadsPairs text rest set (left_of table k)
     → ((after : List ℕ) → rest ≢ pairs_text (pair_at table k any ∷ []) ++ after) → more ≡ set → now ≡ rest
@@ -344,6 +357,7 @@ set_or_none : (text : List ℕ) (set : Option (List Pair)) → ReadsPairs text [
 set_or_none text None h = no_pairs_read text h
 set_or_none text (Some set) h = (set_is_read text set h, h.kept)
 
+-- a text that is read to its end after the last row is parsed as the set that is kept, if there is one
 pub parsed_set : (text rest : List ℕ) (set : Option (List Pair)) (table : List (Tern × Tern)) (k : ℕ)
     → length table ≤ k → ReadsPairs text rest set (left_of table k) → rest ≡ []
     → IsParsed pairs_text IsSetText text set
@@ -351,12 +365,14 @@ parsed_set text rest set table k beyond h none =
     set_or_none text set (subst (λ t. ReadsPairs text t set []) none
     (subst (ReadsPairs text rest set) (none_left table k beyond) h))
 
+-- a text of which something is left after the last row is that of no set
 pub no_parsed_set : (text rest : List ℕ) (set : Option (List Pair)) (table : List (Tern × Tern)) (k : ℕ)
     → length table ≤ k → ReadsPairs text rest set (left_of table k) → rest ≢ []
     → (other : List Pair) → IsSetText other → text ≢ pairs_text other
 no_parsed_set text rest set table k beyond h more =
     no_set_left text rest set (subst (ReadsPairs text rest set) (none_left table k beyond) h) more
 
+-- after a row's pair that the set has is written, the rows after it complete the text
 pub writes_next : (set : List Pair) (table : List (Tern × Tern)) (k : ℕ) (any : Tern × Tern) (text now whole : List ℕ)
     → k < length table → IsMember (pair_at table k any) set
     → text ++ pairs_text (written set (left_of table k)) ≡ whole
@@ -371,6 +387,7 @@ writes_next set table k any text now whole below member so_far is =
     ∙ ap (λ l. text ++ pairs_text (written set l)) (sym (next_left table k any below))
     ∙ so_far
 
+-- nothing is written for a row's pair that the set doesn't have, and the rows after it complete the text
 pub writes_none_next : (set : List Pair) (table : List (Tern × Tern)) (k : ℕ) (any : Tern × Tern)
     (text now whole : List ℕ) → k < length table → (IsMember (pair_at table k any) set → ⊥)
     → text ++ pairs_text (written set (left_of table k)) ≡ whole → now ≡ text
@@ -383,6 +400,7 @@ writes_none_next set table k any text now whole below none so_far same =
     ∙ ap (λ l. text ++ pairs_text (written set l)) (sym (next_left table k any below))
     ∙ so_far
 
+-- after the last row the text is complete
 pub wrote_all : (set : List Pair) (table : List (Tern × Tern)) (k : ℕ) (text whole : List ℕ) → length table ≤ k
     → text ++ pairs_text (written set (left_of table k)) ≡ whole → text ≡ whole
 wrote_all set table k text whole beyond so_far =

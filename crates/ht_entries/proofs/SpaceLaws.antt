@@ -50,6 +50,7 @@ pub record SplitsAt (text : List ℕ) (k : ℕ) : Type 0 where
   pub parts : text ≡ take k text ++ 32 ∷ drop (k + 1) text
   pub before : All IsNoSpace (take k text)
 
+-- a text is what comes before its first space, without any, and what comes after it
 pub first_space : (text : List ℕ) (k : ℕ) → position is_space text ≡ Some k → SplitsAt text k
 first_space text k at =
     let found = position-Some is_space text k 0 at in
@@ -88,6 +89,7 @@ pub record SameParts (xs ys rest more : List ℕ) : Type 0 where
 space_first : (y : ℕ) (ys rest more : List ℕ) → IsNoSpace y → 32 ∷ rest ≡ (y ∷ ys) ++ 32 ∷ more → ⊥
 space_first y ys rest more h e = h (sym (ap first_of e))
 
+-- equal texts have the same part before their first space and the same part after it
 pub parts_same : (xs ys rest more : List ℕ) → All IsNoSpace xs → All IsNoSpace ys
     → xs ++ 32 ∷ rest ≡ ys ++ 32 ∷ more → SameParts xs ys rest more
 parts_same [] [] rest more h k e = record { fronts = refl; rests = ap rest_of e }
@@ -106,6 +108,7 @@ digits_have_no_space (d ∷ ds) h =
     let low = (digit_from_value d (h.0)).0 in
     All-cons IsNoSpace d ds (λ e. omega (arith, low, e)) (digits_have_no_space ds (h.1))
 
+-- the digits of a number have no space
 pub number_has_no_space : (n : ℕ) → n ≤ max_number → All IsNoSpace (decimal n)
 number_has_no_space n h = digits_have_no_space (decimal n) (decimal_is_IsNumeral n (omega (arith, h))).0.1
 
@@ -115,6 +118,7 @@ pub record SameNumber (m n : ℕ) (rest more : List ℕ) : Type 0 where
   pub numbers : m ≡ n
   pub rests : rest ≡ more
 
+-- equal texts that begin with a number and a space have the same number and the same rest
 pub number_front_same : (m n : ℕ) (rest more : List ℕ) → m ≤ max_number → n ≤ max_number
     → decimal m ++ codes " " ++ rest ≡ decimal n ++ codes " " ++ more → SameNumber m n rest more
 number_front_same m n rest more h k e =

@@ -7,18 +7,22 @@ use Rattle.ht_net.specs.Netlist.{Netlist}
 use Rattle.ht_events.specs.Ranks.{AreRanked}
 use Rattle.ht_events.specs.Items.{frame_items, item_count, item_at, frame_of, local_of, driven_net, IsGateOn, ReadsNet, reader_frame, IsReader, IsLoad}
 
+-- the frame of item l of frame f is f
 pub item_frame : (c : Netlist) (f l : ℕ) → l < frame_items c → frame_of c (item_at c f l) ≡ f
 item_frame c f l h = div-mul-add f (frame_items c) l h
 
+-- item l of a frame has index l there
 pub item_local : (c : Netlist) (f l : ℕ) → l < frame_items c → local_of c (item_at c f l) ≡ l
 item_local c f l h = mod-mul-add f (frame_items c) l h
 
+-- an item is the one that its frame has at its index there
 pub item_is : (c : Netlist) (item : ℕ) → item_at c (frame_of c item) (local_of c item) ≡ item
 item_is c item = div-add-mod' item (frame_items c)
 
 mul_mono : (a b n : ℕ) → a ≤ b → a * n ≤ b * n
 mul_mono a b n h = mul-le-mul_right n h
 
+-- an item of one of the first k frames is among the items of k frames
 pub item_inside : (c : Netlist) (k f l : ℕ) → f < k → l < frame_items c → item_at c f l < item_count c k
 item_inside c k f l fs ls =
     let n = frame_items c in
@@ -26,15 +30,18 @@ item_inside c k f l fs ls =
     let e : suc f * n ≡ f * n + n = suc-mul f n in
     omega (arith, m, e, ls)
 
+-- where there is an item, a frame has items
 pub some_items : (c : Netlist) (k item : ℕ) → item < item_count c k → 0 < frame_items c
 some_items c k item h = some (frame_items c) k h where
   some : (n k : ℕ) → item < k * n → 0 < n
   some zero k h = let e = mul-zero k in absurd (omega (arith, e, h))
   some (suc n) k h = omega arith
 
+-- an item among those of k frames is in one of the first k
 pub frame_inside : (c : Netlist) (k item : ℕ) → item < item_count c k → frame_of c item < k
 frame_inside c k item h = (div-lt_iff_lt-mul {k = frame_items c} {x = item} {y = k} (some_items c k item h)).1 h
 
+-- an item's index in its frame is below the number of items that a frame has
 pub local_inside : (c : Netlist) (k item : ℕ) → item < item_count c k → local_of c item < frame_items c
 local_inside c k item h = mod-lt item (some_items c k item h)
 
@@ -44,6 +51,7 @@ pub reader_loads : (c : Netlist) (k f l y : ℕ) → l < frame_items c → IsRea
 reader_loads c k f l y h r = subst (λ (g : ℕ). IsReader c k g (driven_net c (local_of c (item_at c f l))) y)
     (sym (item_frame c f l h)) (subst (λ (m : ℕ). IsReader c k f (driven_net c m) y) (sym (item_local c f l h)) r)
 
+-- a load of an item of a frame reads the net of that item
 pub load_reads : (c : Netlist) (k f l y : ℕ) → l < frame_items c → IsLoad c k (item_at c f l) y
     → IsReader c k f (driven_net c l) y
 load_reads c k f l y h load = subst (λ (m : ℕ). IsReader c k f (driven_net c m) y) (item_local c f l h)
@@ -70,6 +78,7 @@ module _ (c : Netlist) (order ranks : List ℕ) (ranking : AreRanked c (length c
   abbrev pub position_of : ℕ → ℕ
   position_of item = frame_of c item * frame_items c + get_or ranks (local_of c item) 0
 
+  -- items that stand at one position are the same item
   pub positions_differ : (k x y : ℕ) → x < item_count c k → y < item_count c k → position_of x ≡ position_of y → x ≡ y
   positions_differ k x y xs ys e =
       let n = frame_items c in
@@ -91,6 +100,7 @@ module _ (c : Netlist) (order ranks : List ℕ) (ranking : AreRanked c (length c
       let known = ranking.known (local_of c place) (local_inside c k place inside) in
       omega (arith, os, known)
 
+  -- the item that the order has for a position stands at that position
   pub ranked_item : (k place f o : ℕ) → place < item_count c k → f ≡ frame_of c place
       → o ≡ get_or order (local_of c place) 0 → position_of (item_at c f o) ≡ place
   ranked_item k place f o inside fs os =
@@ -100,12 +110,14 @@ module _ (c : Netlist) (order ranks : List ℕ) (ranking : AreRanked c (length c
       (item_local c f o small ∙ os) ∙ ranking.forth l (local_inside c k place inside) in
       (λ i. (item_frame c f o small ∙ fs) i * frame_items c + r i) ∙ item_is c place
 
+  -- the item that the order has for a position is among those of the frames
   pub ranked_inside : (k place f o : ℕ) → place < item_count c k → f ≡ frame_of c place
       → o ≡ get_or order (local_of c place) 0 → item_at c f o < item_count c k
   ranked_inside k place f o inside fs os =
       let fi = frame_inside c k place inside in
       item_inside c k f o (omega (arith, fs, fi)) (ranked_small k place o inside os)
 
+  -- an item's loads stand at later positions
   pub loads_later : (k item y : ℕ) → item < item_count c k → IsLoad c k item y → position_of item < position_of y
   loads_later k item y inside load =
       let n = frame_items c in

@@ -15,6 +15,7 @@ use Rattle.ht_events.proofs.OffsetLaws.{IsThere, reader_at, reader_position, off
 abbrev pub offset_at : PlanState → ℕ → ℕ → ℕ
 offset_at p x k = get_or (get_or p.readers x []) k 0
 
+-- an offset in a net's row is below the number of items of two frames
 pub offset_few : (p : PlanState) (f x i : ℕ) → AreApart p → IsOffsetTable p.circuit p.ranks p.readers
     → i < length (get_or p.readers x []) → offset_at p x i < frame_items p.circuit + frame_items p.circuit
 offset_few p f x i placed table inside =
@@ -107,6 +108,7 @@ module _ (p : PlanState) (old now : List Bool) (f x i position : ℕ) (placed : 
       ];
     }
 
+-- after all readers in a net's row were touched, each item that reads the net is pending
 pub touched_all : (p : PlanState) (old new : List Bool) (f x n : ℕ) → IsOffsetTable p.circuit p.ranks p.readers → n
     ≡ length (get_or p.readers x []) → IsTouched p old new f x n
     → (y : ℕ) → IsReader p.circuit p.frames f x y → IsPendingUnder p new y

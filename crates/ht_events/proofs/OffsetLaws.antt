@@ -40,10 +40,12 @@ lists_mapped f (r ∷ rows) items =
     ap (take (r.end - r.start)) (drop-map f r.start items) ∙ take-map f (r.end - r.start) (drop r.start items) in
     λ i. one i ∷ lists_mapped f rows items i
 
+-- where the flat list was mapped, each row is mapped
 pub placed_lists : (f : ℕ → ℕ) (rows : List NetRow) (items placed : List ℕ) → placed ≡ map f items
     → lists_of rows placed ≡ map (map f) (lists_of rows items)
 placed_lists f rows items placed is = ap (lists_of rows) is ∙ lists_mapped f rows items
 
+-- rows that end within the flat list end within a map of it
 pub placed_rows : (f : ℕ → ℕ) (rows : List NetRow) (items placed : List ℕ) → placed ≡ map f items
     → AreNetRows rows items → AreNetRows rows placed
 placed_rows f rows items placed is h = λ x known.
@@ -105,10 +107,12 @@ module _ (p : PlanState) (f l : ℕ) (placed : AreApart p) (known : l < frame_it
         omega (arith, m, offset)
   ]
 
+  -- a reader stands at its offset from the first position of the net's frame
   pub reader_position : position_at p (reader_at p f l) ≡ f * n + reader_offset p.circuit p.ranks l
   reader_position = (λ i. item_frame p.circuit (reader_frame p.circuit f l) l known i * n
       + get_or p.ranks (item_local p.circuit (reader_frame p.circuit f l) l known i) 0) ∙ split
 
+  -- a reader whose frame is there has a position among those of all frames
   pub there_inside : IsThere p f l → f * n + reader_offset p.circuit p.ranks l < item_count p.circuit p.frames
   there_inside there =
       let s = split in
@@ -116,6 +120,7 @@ module _ (p : PlanState) (f l : ℕ) (placed : AreApart p) (known : l < frame_it
       item_inside p.circuit p.frames (reader_frame p.circuit f l) rank there (placed.small l known) in
       omega (arith, s, i)
 
+  -- a reader whose position is among those of all frames is in a frame that is there
   pub inside_there : f * n + reader_offset p.circuit p.ranks l < item_count p.circuit p.frames → IsThere p f l
   inside_there less = elim (cases_lt (reader_frame p.circuit f l) p.frames) [
     | inl there ↦ there
@@ -125,9 +130,11 @@ module _ (p : PlanState) (f l : ℕ) (placed : AreApart p) (known : l < frame_it
         absurd (omega (arith, s, m, less))
   ]
 
+  -- a reader whose frame is there is among the items of all frames
   pub there_known : IsThere p f l → reader_at p f l < item_count p.circuit p.frames
   there_known there = item_inside p.circuit p.frames (reader_frame p.circuit f l) l there known
 
+  -- an item's offset is below the number of items of two frames
   pub offset_small : reader_offset p.circuit p.ranks l < n + n
   offset_small =
       let count = placed.count in

@@ -19,6 +19,7 @@ module _ (c : Netlist) (sources : ℕ) (gates order : List ℕ) (sorted : IsOrde
     gate_known : (k : ℕ) → k < length c.gates → get_or gates k 0 < length c.gates
     gate_known k h = let n = sorted.each.once in sorted.each.within k (omega (arith, h, n))
 
+    -- each member of the order is a source or a gate
     pub known : (r : ℕ) → r < sources + length c.gates → get_or order r 0 < sources + length c.gates
     known r h = elim (le_or_lt (sources) r) [
       | inl low ↦ let e = gate_is r low h in let k = gate_known (r - sources) (omega (arith, low, h))
@@ -26,6 +27,7 @@ module _ (c : Netlist) (sources : ℕ) (gates order : List ℕ) (sorted : IsOrde
       | inr less ↦ let e = low_are r less in omega (arith, e, h)
     ]
 
+    -- the order has no source and no gate twice
     pub distinct : (q r : ℕ) → q < r → r < sources + length c.gates → get_or order q 0 ≢ get_or order r 0
     distinct q r less h same = elim (le_or_lt (sources) r) [
       | inl low ↦
@@ -101,6 +103,7 @@ module _ (c : Netlist) (sources : ℕ) (gates order : List ℕ) (sorted : IsOrde
                 ]
           ]
 
+      -- sources and then sorted gates are ranked by the list that has each one's index in the order
       pub are_ranked : AreRanked c sources order ranks
       are_ranked = record {
         order_count = count;

@@ -50,12 +50,6 @@ no_items xs x is h =
     omega (arith, none, less)
 
 module _ (c : Netlist) (ranks items row : List ℕ) where
-  pub no_ranks : items ≡ [] → row ≡ [] → AreGateRanks c ranks items row
-  no_ranks none is = record {
-    complete = λ l h gate. absurd (no_items items l none h);
-    sound = λ r h. absurd (no_items row r is h);
-  }
-
   module _ (h : AreGateRanks c ranks items row) (l : ℕ) where
     kept : (new : List ℕ) → ((r : ℕ) → Contains row r → Contains new r)
         → (length c.dffs ≤ l → Contains new (get_or ranks (driven_net c l) 0))
@@ -120,6 +114,7 @@ pub record HasRankRows (c : Netlist) (ranks : List ℕ) (readers : List (List �
   pub count : length readers ≡ n
   pub rows : (x : ℕ) → x < n → IsRankRow c ranks x (get_or readers x [])
 
+-- after the next net's row is added, one net more has its row
 pub row_more : (c : Netlist) (ranks : List ℕ) (table readers new : List (List ℕ)) (n : ℕ) (row : List ℕ)
     → IsTable c table → AreGateRanks c ranks (get_or table n []) row → new ≡ readers ++ row ∷ []
     → HasRankRows c ranks readers n → HasRankRows c ranks new (n + 1)
@@ -153,6 +148,8 @@ module _ (c : Netlist) (valid : IsCircuit c) (ranks : List ℕ) (readers : List 
         absurd (no_items (get_or readers x []) r (get_or_past readers x [] (omega (arith, past, count))) there)
   ]
 
+  -- rows of all nets are the circuit's readers, if ranks are below the number of nets and rise from a net to its
+  -- readers
   pub readers_are : ((x : ℕ) → x < net_count c → get_or ranks x 0 < net_count c)
       → ((y x : ℕ) → ReadsFrom c y x → get_or ranks x 0 < get_or ranks y 0) → AreReaders c ranks readers
   readers_are small rises = record {

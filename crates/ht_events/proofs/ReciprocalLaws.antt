@@ -61,5 +61,6 @@ module _ (n x : ℕ) (some : 0 < n) (few : n < 2 ^ 16) (known : x < max_frames *
   quotient : x * (k + 1) / scale ≡ x / n
   quotient = ap (λ (t : ℕ). t / scale) product ∙ div-mul-add q scale (q * e + r * (k + 1)) rest
 
+-- the scale divided by a frame's length, and one more, is its reciprocal, for a length below 2^16
 pub reciprocal_is : (n : ℕ) → 0 < n → n < 2 ^ 16 → IsReciprocal n (scale / n + 1)
 reciprocal_is n some few = λ x known. quotient n x some few known

@@ -21,6 +21,7 @@ pub record HasRowRoom (rows : List NetRow) (items : List ℕ) (room : ℕ → �
   pub apart : (x y : ℕ) → x < y → y < length rows → (row_of rows x).end + room x ≤ (row_of rows y).start
   pub within : (x : ℕ) → x < length rows → (row_of rows x).end + room x ≤ length items
 
+-- rows that have room for readers have room for fewer
 pub room_kept : (rows : List NetRow) (items : List ℕ) (room left : ℕ → ℕ) → ((x : ℕ) → left x ≤ room x)
     → HasRowRoom rows items room → HasRowRoom rows items left
 room_kept rows items room left less h = record {
@@ -36,6 +37,7 @@ rows_with rows n = set rows n (record { start = (row_of rows n).start; end = (ro
 abbrev pub items_with : List NetRow → List ℕ → ℕ → ℕ → List ℕ
 items_with rows items n local = set items (row_of rows n).end local
 
+-- a list that is shorter than 2^48 still is after a member is written
 pub few_still : (items : List ℕ) (i local : ℕ) (more : List ℕ) → more ≡ set items i local → length items < 2 ^ 48
     → length more < 2 ^ 48
 few_still items i local more e few =
@@ -97,6 +99,7 @@ module _ (rows : List NetRow) (items : List ℕ) (n local : ℕ) (inside : n < l
   unwritten : (k : ℕ) → k ≢ (row_of rows n).end → get_or more_items k 0 ≡ get_or items k 0
   unwritten k ne = get_or-set_other items (row_of rows n).end k local 0 ne
 
+  -- a row that has room ends before the flat list does
   pub room_there : (row_of rows n).end < length items
   room_there = let w = h.within n inside in omega (arith, w, some)
 
@@ -164,6 +167,7 @@ module _ (rows : List NetRow) (items : List ℕ) (n local : ℕ) (inside : n < l
     | inr p ↦ inl (only_there x l p.1 r)
   ]
 
+  -- after an item is written at the end of a net's row, that net has it as a reader beside those there were
   pub reader_more : IsMore (HasReader rows items) (HasReader more_rows more_items) n local
   reader_more = record { keeps = reader_keeps; has = reader_has; only = reader_only }
 
@@ -183,6 +187,7 @@ module _ (rows : List NetRow) (items : List ℕ) (n local : ℕ) (inside : n < l
       | inr p ↦ let e = other_end x p.1 in let r = rest x in (omega (arith, e), omega (arith, e, r))
     ]
 
+    -- after an item is written at the end of a net's row, there is room for one reader less of that net
     pub room_left : HasRowRoom more_rows more_items left
     room_left = record {
       rises = λ x. let s = starts x in let e = (ends x).0 in let r = h.rises x in omega (arith, s, e, r);
@@ -257,6 +262,7 @@ module _ (c : Netlist) (n : ℕ) (rows : List NetRow) (room : ℕ) (h : AreEmpty
             omega (arith, e, s, w)
       ]
 
+  -- after an empty row is added for the next net, one net more has its row, and the room holds its loads
   pub one_more_row : AreEmptyRows c (n + 1) (rows ++ next ∷ []) (room + loads_of c n)
   one_more_row = record {
     count = (let l = long in let count = h.count in omega (arith, l, count));

@@ -10,6 +10,7 @@ use Rattle.ht_events.specs.Ranks.{AreRanked}
 use Rattle.ht_events.specs.Schedules.{IsSchedule, ReadsFrom}
 use Rattle.ht_events.specs.declared.schedule.Schedule.{Schedule}
 
+-- a net has a lower rank than each net that reads from it
 pub rises_from : (c : Netlist) (order ranks : List ℕ) → AreRanked c (first_gate_net c) order ranks → (y x : ℕ)
     → ReadsFrom c y x → get_or ranks x 0 < get_or ranks y 0
 rises_from c order ranks is y x on =
@@ -34,10 +35,12 @@ module _ (c : Netlist) (s : Schedule) (is : IsSchedule c s) where
     has_reader : (r : ℕ) → Contains row r → Contains (get_or s.readers x []) r
     has_reader r has = subst (λ (l : List ℕ). Contains l r) row_is has
 
+    -- each rank in a net's row is below the number of nets
     pub readers_known : (k d : ℕ) → k < length row → get_or row k d < net_count c
     readers_known k d within =
         is.readers.within x (get_or row k d) (has_reader (get_or row k d) (Contains-get_or row k d within))
 
+    -- a net's row has no rank up to that of the net
     pub readers_later : (rank : ℕ) → rank < net_count c → x ≡ get_or s.order.items rank 0
         → (r : ℕ) → r ≤ rank → ¬ Contains row r
     readers_later rank inside net_is r below has =
@@ -48,10 +51,12 @@ module _ (c : Netlist) (s : Schedule) (is : IsSchedule c s) where
 -- What is pending after the net of a rank was evaluated and those in a row were made pending.
 module _ (pending removed touched : List Bool) (row : List ℕ) (rank : ℕ) (is : removed ≡ set pending rank false)
     (rest : (r : ℕ) → ¬ Contains row r → get_or touched r false ≡ get_or removed r false) where
+  -- after a net was evaluated, a rank that is not its own and not in its row is pending as it was before
   pub touched_as_before : (q : ℕ) → q ≢ rank → ¬ Contains row q → get_or touched q false ≡ get_or pending q false
   touched_as_before q ne apart =
       rest q apart ∙ (ap (λ (l : List Bool). get_or l q false) is ∙ get_or-set_other pending rank q false false ne)
 
+  -- after a net was evaluated, its rank is pending no more, if its row does not have it
   pub rank_taken : rank < length pending → ¬ Contains row rank → get_or touched rank false ≡ false
   rank_taken inside apart =
       rest rank apart ∙ (ap (λ (l : List Bool). get_or l rank false) is

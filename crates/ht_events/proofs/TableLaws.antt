@@ -18,11 +18,13 @@ use Rattle.ht_events.proofs.RowLaws.{HasReader, HasRowRoom, IsMore, rows_with, i
 abbrev pub reads_from : Netlist → ℕ → ℕ → ℕ
 reads_from c g x = sum_by (λ (gate : Gate). times x gate.args) (drop g c.gates)
 
+-- a net occurs no more often from the next index on than from this one on
 pub fewer_reads : (nets : List NetId) (i x : ℕ) → i < length nets → times x (drop (i + 1) nets) ≤ times x (drop i nets)
 fewer_reads nets i x inside =
     let e = sum_by-drop_more (λ (n : NetId). cond (eqb n.0 x) 1 0) nets i no_net inside in
     omega (arith, e)
 
+-- a net that is at an index occurs more often from there on than from the next index on
 pub one_read : (nets : List NetId) (i x : ℕ) → i < length nets → (get_or nets i no_net).0 ≡ x
     → times x (drop (i + 1) nets) + 1 ≤ times x (drop i nets)
 one_read nets i x inside is =
@@ -45,12 +47,14 @@ pub record IsPartTable (c : Netlist) (Has : ℕ → ℕ → Type 0) (g : ℕ) : 
   pub gates : (x k : ℕ) → k < length c.dffs + g → IsGateOn c k x → Has x k
 
 module _ (c : Netlist) (Has New : ℕ → ℕ → Type 0) (n local : ℕ) (more : IsMore Has New n local) where
+  -- a sound table is sound after an item is added to the row of a net that it reads
   pub sound_more : ReadsNet c local n → IsSound c Has → IsSound c New
   sound_more reads sound x k h = elim (more.only x k h) [
     | inl old ↦ sound x k old
     | inr e ↦ subst (λ (y : ℕ). ReadsNet c k y) (sym e.0) (subst (λ (l : ℕ). ReadsNet c l n) (sym e.1) reads)
   ]
 
+  -- after a flip-flop is added to the row of the net at its data pin, one flip-flop more is in the table
   pub dffs_more : (get_or c.dffs local no_net).0 ≡ n → ((x k : ℕ) → k < local → IsDffOn c k x → Has x k)
       → (x k : ℕ) → k < local + 1 → IsDffOn c k x → New x k
   dffs_more reads dffs x k less d = elim (eqb_tells k local) [
@@ -60,6 +64,7 @@ module _ (c : Netlist) (Has New : ℕ → ℕ → Type 0) (n local : ℕ) (more 
     | inr p ↦ let ne : k ≢ local = p.1 in more.keeps x k (dffs x k (omega (arith, less, ne)) d)
   ]
 
+  -- after a gate is added to the row of the net at a pin, one pin more of that gate is in the table
   pub pins_more : (g i : ℕ) → local ≡ length c.dffs + g → arg_at c g i ≡ n
       → ((j : ℕ) → j < i → Has (arg_at c g j) (length c.dffs + g)) → (j : ℕ) → j < i + 1
       → New (arg_at c g j) (length c.dffs + g)
@@ -70,6 +75,8 @@ module _ (c : Netlist) (Has New : ℕ → ℕ → Type 0) (n local : ℕ) (more 
     | inr p ↦ let ne : j ≢ i = p.1 in more.keeps (arg_at c g j) (length c.dffs + g) (pins j (omega (arith, less, ne)))
   ]
 
+  -- after an item is added to the row of a net that it reads, the table still has the flip-flops and the first g
+  -- gates
   pub part_kept : (g : ℕ) → ReadsNet c local n → IsPartTable c Has g → IsPartTable c New g
   part_kept g reads t = record {
     sound = sound_more reads t.sound;
@@ -124,6 +131,7 @@ pub record HasPins (c : Netlist) (rows : List NetRow) (items : List ℕ) (g i : 
   pub pins : (j : ℕ) → j < i → HasReader rows items (arg_at c g j) (length c.dffs + g)
 
 module _ (c : Netlist) (rows : List NetRow) (items : List ℕ) where
+  -- rows that have all flip-flops are ready for the first gate
   pub all_dffs : (j : ℕ) → length c.dffs ≤ j → HasDffs c rows items j → HasGates c rows items 0
   all_dffs j all h = record {
     count = h.count;
@@ -136,6 +144,7 @@ module _ (c : Netlist) (rows : List NetRow) (items : List ℕ) where
     };
   }
 
+  -- rows that have the first g gates are ready for the first pin of gate g
   pub no_pins : (g : ℕ) → g < length c.gates → HasGates c rows items g → HasPins c rows items g 0
   no_pins g known h = record {
     count = h.count;
@@ -146,6 +155,7 @@ module _ (c : Netlist) (rows : List NetRow) (items : List ℕ) where
     pins = λ j less. absurd (omega (arith, less));
   }
 
+  -- rows that have all pins of gate g beside have one gate more
   pub all_pins : (g i : ℕ) → i ≡ length (gate_at c g).args → HasPins c rows items g i → HasGates c rows items (g + 1)
   all_pins g i all h = record {
     count = h.count;
@@ -159,15 +169,18 @@ module _ (c : Netlist) (valid : IsCircuit c) (rows : List NetRow) (items : List 
   abbrev dff_left : ℕ → ℕ → ℕ
   dff_left k x = times x (drop k c.dffs) + reads_from c 0 x
 
+  -- the net at a flip-flop's data pin has a row
   pub dff_row : n < length rows
   dff_row = let k = valid.data_known j known in let count = h.count in omega (arith, k, is, count)
 
   dff_some : 0 < dff_left j n
   dff_some = let o = one_read c.dffs j n known is in omega (arith, o)
 
+  -- the row of the net at a flip-flop's data pin ends before the flat list does
   pub dff_room : (row_of rows n).end < length items
   dff_room = room_there rows items n j dff_row (dff_left j) h.room dff_some
 
+  -- after a flip-flop is written in the row of the net at its data pin, the rows have one flip-flop more
   pub with_dff : HasDffs c (rows_with rows n) (items_with rows items n j) (j + 1)
   with_dff =
       let more = reader_more rows items n j dff_row (dff_left j) h.room dff_some in
@@ -186,12 +199,14 @@ module _ (c : Netlist) (valid : IsCircuit c) (rows : List NetRow) (items : List 
   abbrev pin_left : ℕ → ℕ → ℕ
   pin_left k x = times x (drop k (gate_at c g).args) + reads_from c (g + 1) x
 
+  -- the net at a gate's pin has a row
   pub pin_row : n < length rows
   pin_row = let k = valid.known g i known pin in let count = h.count in omega (arith, k, is, count)
 
   pin_some : 0 < pin_left i n
   pin_some = let o = one_read (gate_at c g).args i n pin is in omega (arith, o)
 
+  -- the row of the net at a gate's pin ends before the flat list does
   pub pin_room : (row_of rows n).end < length items
   pin_room = room_there rows items n (length c.dffs + g) pin_row (pin_left i) h.room pin_some
 
@@ -206,6 +221,7 @@ module _ (c : Netlist) (valid : IsCircuit c) (rows : List NetRow) (items : List 
         reads = ap (λ (h : ℕ). arg_at c h i) at ∙ is;
       })
 
+  -- after a gate is written in the row of the net at its next pin, the rows have one pin more of it
   pub with_pin : HasPins c (rows_with rows n) (items_with rows items n (length c.dffs + g)) g (i + 1)
   with_pin =
       let l = length c.dffs + g in
@@ -240,6 +256,7 @@ module _ (rows : List NetRow) (items : List ℕ) (within : AreNetRows rows items
     | inr past ↦ let d = ap (λ (r : NetRow). r.end) (get_or_past rows x no_row past) in absurd (omega (arith, d, below))
   ]
 
+  -- an item in a net's row is in the net's list of readers
   pub has_listed : (x l : ℕ) → HasReader rows items x l → Contains (get_or (lists_of rows items) x []) l
   has_listed x l r =
       let row = row_of rows x in
@@ -258,6 +275,7 @@ module _ (rows : List NetRow) (items : List ℕ) (within : AreNetRows rows items
             ∙ (get_or_default items r.place l 0 (omega (arith, below, fits)) ∙ r.at)),
       )
 
+  -- an item in a net's list of readers is in the net's row
   pub listed_has : (x l : ℕ) → Contains (get_or (lists_of rows items) x []) l → HasReader rows items x l
   listed_has x l c = elim (cases_lt x (length rows)) [
     | inl known ↦
@@ -283,6 +301,7 @@ module _ (rows : List NetRow) (items : List ℕ) (within : AreNetRows rows items
         absurd (omega (arith, k))
   ]
 
+  -- rows that have all flip-flops and all gates are, as lists, a table of the circuit
   pub table_is : (c : Netlist) → length rows ≡ net_count c → IsPartTable c (HasReader rows items) (length c.gates)
       → IsTable c (lists_of rows items)
   table_is c count t = record {

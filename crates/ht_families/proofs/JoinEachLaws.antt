@@ -22,6 +22,7 @@ joined_within : (s t : List Pair) → joined_set s t ≡ s → Includes s t
 joined_within s t e p i =
     subst (λ (l : List Pair). IsMember p l) e ((set_of_holds (s ++ t) p).1 (member_right p s t i))
 
+-- once the set at index j is joined too, the sets below j + 1 are
 pub one_joined : (before other now : Family) (j : ℕ) (v : List Pair) → AreJoined before other now j
     → j < length before → v ≡ joined_set (get_or now j []) (get_or other j [])
     → (v ≡ get_or now j []) ⊎ (length (get_or now j []) < length v) → length v ≤ 9
@@ -73,6 +74,7 @@ one_joined before other now j v h inside is more nine =
       ];
     }
 
+-- sets with at most nine pairs each have at most nine times their number in all
 pub size_few : (sets : List (List Pair)) → ((k : ℕ) → k < length sets → length (get_or sets k []) ≤ 9)
     → size_of sets ≤ 9 * length sets
 size_few [] h = omega arith
@@ -89,17 +91,21 @@ included_at family other j s t is there inside all p i =
     subst (λ (l : List Pair). IsMember p l) (sym is)
     (all j inside p (subst (λ (l : List Pair). IsMember p l) there i))
 
+-- where a set read from one family includes that read from another, the families' sets at the index do so
 pub one_included : (family other : Family) (j : ℕ) (s t : List Pair) → s ≡ get_or family j []
     → t ≡ get_or other j [] → Includes s t → Includes (get_or family j []) (get_or other j [])
 one_included family other j s t is there all p i =
     subst (λ (l : List Pair). IsMember p l) is (all p (subst (λ (l : List Pair). IsMember p l) (sym there) i))
 
+-- the union of two sets is that of two sets equal to them
 pub joined_of : (v s t s' t' : List Pair) → v ≡ joined_set s t → s ≡ s' → t ≡ t' → v ≡ joined_set s' t'
 joined_of v s t s' t' e d f = e ∙ (λ i. joined_set (d i) (f i))
 
+-- a set that equals another or is longer stays so where the other is replaced by an equal one
 pub grows_of : (v s s' : List Pair) → (v ≡ s) ⊎ (length s < length v) → s ≡ s' → (v ≡ s') ⊎ (length s' < length v)
 grows_of v s s' (inl e) d = inl (e ∙ d)
 grows_of v s s' (inr l) d = inr (subst (λ (x : List Pair). length x < length v) d l)
 
+-- false isn't true
 pub not_true : IsTrue false → ⊥
 not_true h = cc

@@ -45,6 +45,7 @@ stuck_below value set other h p i =
     (subst (λ (q : Pair). IsMember q (map (stuck_pair value) other)) (sym w.2)
     (member_map (stuck_pair value) other w.0 (h w.0 w.1)))
 
+-- from larger sets gates and lines make larger ones, with or without a fault
 pub sets_monotone : (fault : Option Fault) → Preserves Below (pair_set_rules fault) (pair_set_rules fault)
 sets_monotone fault = rules_keep Below (pair Unk Unk ∷ []) (pair Unk Unk ∷ []) lifted_set lifted_set stuck_set stuck_set
     (λ p i. i) lifted_below stuck_below fault
@@ -83,12 +84,14 @@ pub record IsGrown (c : Netlist) (fault : Fault) (start : List Tern) (family : F
   pub starts : HoldsState family start
   pub within : (other : Family) → Closes c fault start other → IncludesEach other family
 
+-- the family of a start gives each flip-flop only the pair that it starts with
 pub start_at : (start : List Tern) (j : ℕ) → j < length start
     → get_or (start_family start) j [] ≡ pair (get_or start j Unk) (get_or start j Unk) ∷ []
 start_at [] j l = absurd (omega arith)
 start_at (v ∷ start) zero l = refl
 start_at (v ∷ start) (suc j) l = start_at start j (omega arith)
 
+-- the family of a start has a set for each value of the start
 pub start_long : (start : List Tern) → length (start_family start) ≡ length start
 start_long [] = refl
 start_long (v ∷ start) = ap suc (start_long start)
@@ -127,6 +130,7 @@ may_below : (set other : List Pair) → Below set other → MayDiffer set → Ma
 may_below set other h (inl i) = inl (h _ i)
 may_below set other h (inr i) = inr (h _ i)
 
+-- where some output may differ in what a grown family shows, no family closes
 pub none_closes : (c : Netlist) (fault : Fault) (start : List Tern) (family : Family) (o : ℕ)
     → IsGrown c fault start family → o < length c.outputs → MayDiffer (get_or (shown_sets c fault family) o [])
     → (other : Family) → ¬ Closes c fault start other

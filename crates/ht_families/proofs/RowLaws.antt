@@ -25,6 +25,7 @@ listed F a (suc n) (x ∷ xs) e h =
     h (suc j) (omega arith) ∙ ap F to) in
     (λ k. first k ∷ rest k)
 
+-- the family of a start, with the sets of rows written into it, is the family of the start and the rows
 pub family_is : (start : List Tern) (rows : List FamilyRow) (before family : List (List Pair))
     → before ≡ start_family start → length family ≡ length before
     → ((j : ℕ) → get_or family j [] ≡ row_set rows j (get_or before j [])) → family ≡ family_of start rows
@@ -37,6 +38,7 @@ family_is start rows before family is long all =
     all j ∙ (ap (λ (b : List (List Pair)). row_set rows j (get_or b j [])) is
     ∙ (ap (row_set rows j) (start_at start j l) ∙ ap (λ (i : ℕ). row_set rows i (start_set start i)) to)))
 
+-- the family of a start and rows has a set for each value of the start
 pub family_long : (start : List Tern) (rows : List FamilyRow) → length (family_of start rows) ≡ length start
 family_long start rows = length-map-range_with_len (λ j. row_set rows j (start_set start j)) 0 (length start)
 
@@ -51,6 +53,7 @@ abbrev pub RiseTo : List FamilyRow → ℕ → Type 0
 RiseTo rows n = (k : ℕ) (d : FamilyRow) → k < n → k + 1 < length rows
     → (get_or rows k d).dff < (get_or rows (k + 1) d).dff
 
+-- rows rise where the flip-flop of each is below that of the next
 pub rise_by : (rows : List FamilyRow) (n : ℕ) → length rows ≤ n → RiseTo rows n → Rises (dffs_of rows)
 rise_by rows n all h = record {
   next = λ i l.
@@ -62,6 +65,7 @@ rise_by rows n all h = record {
       omega (arith, a, b, c);
 }
 
+-- where rows rise, the flip-flop of each is below that of the next
 pub rises_at : (rows : List FamilyRow) (i : ℕ) (d : FamilyRow) → Rises (dffs_of rows) → i + 1 < length rows
     → (get_or rows i d).dff < (get_or rows (i + 1) d).dff
 rises_at rows i d h l =

@@ -78,6 +78,7 @@ pub record AreRows (start : List Tern) (family : List (List Pair)) (rows : List 
   pub sets : (k : ℕ) → k < j → row_set rows k (start_set start k) ≡ get_or family k []
   pub own : All (IsOwnRow start) rows
 
+-- the rows of the flip-flops below j are those below j + 1 where flip-flop j has only the pair of its start
 pub skipped : (start : List Tern) (family : List (List Pair)) (rows : List FamilyRow) (j : ℕ)
     → AreRows start family rows j → get_or family j [] ≡ start_set start j → AreRows start family rows (j + 1)
 skipped start family rows j h same = record {
@@ -92,6 +93,7 @@ skipped start family rows j h same = record {
   own = h.own;
 }
 
+-- the rows of the flip-flops below j, and one more with the set of flip-flop j, are those below j + 1
 pub pushed : (start : List Tern) (family : List (List Pair)) (rows : List FamilyRow) (j : ℕ) (r : FamilyRow)
     → AreRows start family rows j → r.dff ≡ j → r.set ≡ get_or family j [] → IsOwnRow start r
     → AreRows start family (rows ++ r ∷ []) (j + 1)
@@ -107,6 +109,7 @@ pushed start family rows j r h at is own = record {
   own = All-append (IsOwnRow start) rows (r ∷ []) h.own (All-cons (IsOwnRow start) r [] own (All-nil (IsOwnRow start)));
 }
 
+-- the rows of all flip-flops of a family give that family back
 pub ended : (start : List Tern) (family : List (List Pair)) (rows : List FamilyRow) (j : ℕ)
     → AreRows start family rows j → length family ≤ j → length start ≡ length family
     → family_of start rows ≡ family

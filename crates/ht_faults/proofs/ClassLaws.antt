@@ -8,6 +8,7 @@ use Rattle.ht_faults.specs.Classes.{SameClass, itself, turned, joined, fault_at,
 use Rattle.ht_faults.specs.Leaders.{AreLeaders}
 use Rattle.ht_faults.specs.FirstIndex.{AreFirstIndices}
 
+-- the first indices with each fault's leader are the representatives of the classes
 pub are_classes : (c : Netlist) (leaders indices : List ℕ) → AreLeaders c leaders → AreFirstIndices leaders indices
     → AreClasses c indices
 are_classes c leaders indices same first = record {
@@ -37,6 +38,7 @@ one_representative c i j r q same h k = elim (cases_lt r q) [
   ]
 ]
 
+-- two faults have one representative exactly where they are in one class
 pub same_representative : (c : Netlist) (representatives : List ℕ) (i j : ℕ) → AreClasses c representatives
     → i < length (faults_of c) → j < length (faults_of c)
     → (get_or representatives i 0 ≡ get_or representatives j 0) ↔ SameClass c (fault_at c i) (fault_at c j)
@@ -49,6 +51,7 @@ same_representative c representatives i j h inside there =
       λ same. one_representative c i j (get_or representatives i 0) (get_or representatives j 0) same a b,
     )
 
+-- the representative of a fault is its own representative
 pub own_representative : (c : Netlist) (representatives : List ℕ) (i : ℕ) → AreClasses c representatives
     → i < length (faults_of c)
     → get_or representatives (get_or representatives i 0) 0 ≡ get_or representatives i 0
@@ -56,6 +59,7 @@ own_representative c representatives i h inside =
     let a = h.exact i inside in
     (same_representative c representatives (get_or representatives i 0) i h a.listed inside).1 a.member
 
+-- a circuit has one list of representatives only
 pub one_list : (c : Netlist) (representatives others : List ℕ) → AreClasses c representatives → AreClasses c others
     → representatives ≡ others
 one_list c representatives others h k =

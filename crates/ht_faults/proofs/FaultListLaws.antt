@@ -54,6 +54,7 @@ stems_listed c =
     let split = length-append (stems_of c) (filter (is_site c) (data_pins_of c ++ gate_pins_of c)) in
     omega (arith, count, long, all, split)
 
+-- the faults of net x's stem are in the fault list at index 2 * x for stuck-at-0, at 2 * x + 1 for stuck-at-1
 pub stem_listed : (c : Netlist) (x : ℕ) (v : Bool) → x < net_count c → fault_at c (stem_number x v)
     ≡ record { site = Stem (record { 0 = x }); value = v }
 stem_listed c x false inside =
@@ -78,6 +79,7 @@ number_same x y true true e = (omega arith, refl)
 number_same x y false true e = absurd (omega arith)
 number_same x y true false e = absurd (omega arith)
 
+-- the faults of the first n nets' stems have numbers below 2 * n
 pub number_below : (x n : ℕ) (v : Bool) → x < n → stem_number x v < 2 * n
 number_below x n false h = omega arith
 number_below x n true h = omega arith

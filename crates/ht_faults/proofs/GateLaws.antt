@@ -33,6 +33,7 @@ tern_complement : (b : Bool) → tern_operations.complement (tern_of b) ≡ tern
 tern_complement false = refl
 tern_complement true = refl
 
+-- 0 and 1 are the bits of the domain of three values
 pub tern_bits : HasBits tern_operations tern_of
 tern_bits = record {
   complement = tern_complement;
@@ -50,6 +51,7 @@ or_right : (x : Bool) → (x || true) ≡ true
 or_right false = refl
 or_right true = refl
 
+-- the values of the domain of two values are its bits
 pub bool_bits : HasBits bool_operations (λ b. b)
 bool_bits = record {
   complement = λ b. refl;

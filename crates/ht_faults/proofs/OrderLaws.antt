@@ -49,6 +49,7 @@ module _ (c : Netlist) (order : List ℕ) (circuit : IsCircuit c) (ordered : IsO
         input ∙ ((old i pin).joins v w single values ∙ sym output);
   }
 
+  -- where the gates after index k of an order have joined their classes and the gate at k does, all from k on have
   pub one_gate : (before after : List ℕ) (k : ℕ) → k < length order → OthersStay c before after (get_or order k 0)
       → GateJoins c after (get_or order k 0)
       → ((j : ℕ) → k + 1 ≤ j → j < length order → GateJoins c before (get_or order j 0))
@@ -58,6 +59,7 @@ module _ (c : Netlist) (order : List ℕ) (circuit : IsCircuit c) (ordered : IsO
     | inr ne ↦ later_stays before after k j (omega arith) inside others (old j (omega arith) inside)
   ]
 
+  -- where the gates at all indices of an order have joined their classes, all gates of the circuit have
   pub all_gates : (leaders : List ℕ) → ((j : ℕ) → 0 ≤ j → j < length order → GateJoins c leaders (get_or order j 0))
       → (g : ℕ)
       → g < length c.gates → GateJoins c leaders g

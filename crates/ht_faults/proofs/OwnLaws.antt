@@ -28,6 +28,7 @@ own_more representatives n is =
     let one : filter p (n ∷ []) ≡ n ∷ [] = rw passes refl in
     filter_more p n ∙ ap (λ l. filter p (range_with_len 0 n) ++ l) one
 
+-- a fault that isn't its own representative adds none to those that are
 pub own_same : (representatives : List ℕ) (n : ℕ) → get_or representatives n 0 ≢ n
     → filter (is_representative representatives) (range_with_len 0 (n + 1))
     ≡ filter (is_representative representatives) (range_with_len 0 n)
@@ -82,6 +83,7 @@ filter_keeps p (x ∷ xs) (suc i) inside passes = by (p x) (filter_keeps p xs i 
     by true (k, found, is) = (suc k, omega arith, is)
     by false found = found
 
+-- a fault that is its own representative is at some index of the list of these
 pub representative_is_own : (representatives : List ℕ) (i : ℕ) → i < length representatives
     → is_representative representatives i ≡ true
     → (k : ℕ) × (k < length (own_representatives representatives))

@@ -80,6 +80,7 @@ module _ {V : Type 0} (blank : V) (gate : Kind → List V → V) (at : Bool → 
               ∙ pin_same vector latches (net_value c (stuck blank gate at (GatePin g i) v) vector latches) y;
         }) x within
 
+    -- a stuck pin and the equivalent stuck output of its gate are alike in each frame
     pub pin_pair : FrameAlike c (stuck blank gate at (GatePin g i) v) by_output
     unfolding frame_outputs next_state forced
     pin_pair = record {
@@ -159,6 +160,7 @@ module _ {V : Type 0} (blank : V) (gate : Kind → List V → V) (at : Bool → 
             sym (but_other a (net_value_over c by_output vector latches e a) e x ne)
             ∙ settled_is_frame c depth deep by_output vector latches f stem_settled x within
 
+      -- a stuck stem that one gate only reads and the equivalent stuck output of the gate are alike in each frame
       pub stem_pair : FrameAlike c by_stem by_output
       unfolding frame_outputs next_state forced
       stem_pair = record {

@@ -97,10 +97,12 @@ tern_table = record { decides = table_holds tern_operations tern_of Unk tern_bit
 bool_table : HasTable false bool_gate_value (λ b. b)
 bool_table = record { decides = table_holds bool_operations (λ b. b) false bool_bits }
 
+-- machines with faults of one class run alike over three values
 pub tern_members_alike : (c : Netlist) (f g : Fault) → IsCircuit c → SameClass c f g
     → RunAlike c (tern_rules (Some f)) (tern_rules (Some g))
 tern_members_alike c f g circuit h = members_alike Unk gate_value tern_of tern_table c circuit f g h
 
+-- machines with faults of one class run alike over two values
 pub bool_members_alike : (c : Netlist) (f g : Fault) → IsCircuit c → SameClass c f g
     → RunAlike c (bool_rules (Some f)) (bool_rules (Some g))
 bool_members_alike c f g circuit h = members_alike false bool_gate_value (λ b. b) bool_table c circuit f g h
@@ -115,6 +117,7 @@ IsFirstBy c start list place rows =
     (λ p. DetectsBy c start list rows p.vector p.output
     × ((t o : ℕ) → IsBefore t o p → ¬ DetectsBy c start list rows t o))
 
+-- a list detects faults of one class first at the same place, from the same start
 pub members_detected : (c : Netlist) (f g : Fault) (start : List Tern) (list : List (List Bool)) (place : Option Place)
     → IsCircuit c → SameClass c f g
     → IsFirstFrom c f start list place ↔ IsFirstFrom c g start list place
@@ -123,6 +126,7 @@ members_detected c f g start list place circuit h =
     ≡ outputs_from c (Some g) start list = (tern_members_alike c f g circuit h).outputs start (map terns_of list) in
     (subst (IsFirstBy c start list place) rows, subst (IsFirstBy c start list place) (sym rows))
 
+-- a list detects a fault first at the place where it detects its representative first
 pub representative_detected : (c : Netlist) (representatives : List ℕ) (i : ℕ) (start : List Tern)
     (list : List (List Bool)) (place : Option Place) → IsCircuit c → AreClasses c representatives
     → i < length (faults_of c) → IsFirstFrom c (fault_at c (get_or representatives i 0)) start list place

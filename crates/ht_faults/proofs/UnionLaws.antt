@@ -38,6 +38,8 @@ module _ (c : Netlist) (circuit : IsCircuit c) (g i : ℕ) (inside : g < length 
         others = record { stay = λ k ne. two.others k (ne i true pin) ∙ one.others k (ne i false pin) };
       }
 
+  -- both faults of a pin's stem united, one after the other, give each pair at the pin one leader, and keep other
+  -- pins'
   pub united_pin : (x : ℕ) → x ≡ arg_at c g i → (leaders some all : List ℕ)
       → some ≡ united c g (stem_number x false) (output_value c g false) leaders
       → all ≡ united c g (stem_number x true) (output_value c g true) some → AreUnited c g i leaders all

@@ -153,6 +153,7 @@ module _ (c : Netlist) (circuit : IsCircuit c) (g i : ℕ) (inside : g < length 
       go None = refl
       go (Some w) = length-set leaders (stem_number (arg_at c g i) v) (get_or leaders (output_number c g w) 0)
 
+  -- uniting a stem's fault at a pin with the output's gives the pair one leader, and leaves those of all other faults
   pub value_united : (v : Bool) (leaders : List ℕ) → IsUnited c g i v leaders
   value_united v leaders = record {
     stay = unites_stay v leaders;

@@ -89,6 +89,7 @@ module _ (e : EngineView) (steps : List Step) (saids : List Said) (w : IsFinishe
   said_untestable own chosen Undetected is = absurd (w.finished.none_awaits i
       (record { own = own; chosen = chosen; undetected = is.undetected; without_entry = is.kind_is }))
 
+-- with a budget for one frame, each chosen representative that some set seals under the clauses is said untestable
 pub decided_under : (e : EngineView) (steps : List Step) (saids : List Said) → IsFinishedWork e steps saids
     → AreDecidedIn e.circuit e.representatives e.settings saids e.named_invariant.clauses
 decided_under e steps saids w large i own chosen z seal =

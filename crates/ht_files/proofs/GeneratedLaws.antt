@@ -32,6 +32,7 @@ whole_report c representatives budget saids body total body_is total_is =
     ∙ ap (λ (l : List ℕ). report_body c representatives (Some budget) saids ++ l) total_is
     ∙ sym (report_splits c representatives (Some budget) saids)
 
+-- the report of a finished engine and the texts of its steps are generated files, if each is short enough
 pub are_generated : (e : EngineView) (steps : List Step) (saids : List Said) (report total : List ℕ)
     → IsFinishedWork e steps saids → HasPlainNames e.circuit → length (tests_of steps) ≤ max_text_bytes
     → length (proofs_of e.settings steps) ≤ max_text_bytes → length report ≤ max_text_bytes
@@ -95,6 +96,7 @@ module _ (e : EngineView) (saids : List Said) (body total : List ℕ) (steps : L
       names short_tests short_proofs (omega (arith, long, short))
       (whole_report e.circuit e.representatives e.settings.budget saids body total body_is total_is) total_is
 
+  -- the body with the total line and the texts of finished steps are generated, by the circuit and the classes
   pub report_is_generated : (c : Netlist) (representatives : List ℕ) (budget : ℕ) → e.circuit ≡ c
       → e.representatives ≡ representatives → budget ≡ e.settings.budget
       → Generates e saids body total steps c representatives budget
@@ -112,6 +114,7 @@ Totals e saids total steps c representatives = AreClasses c representatives
     → AreSaid e (length (faults_of c)) saids → total ≡ with_lf (total_line (sums_of representatives saids true))
     → AreFinished c representatives e.settings steps → IsTotalOf c e.settings total
 
+-- the total line of what an engine says of each fault is that of its finished steps
 pub total_is_of : (e : EngineView) (saids : List Said) (total : List ℕ) (steps : List Step) → EngineStandsFor e steps
     → (c : Netlist) (representatives : List ℕ) → e.circuit ≡ c → e.representatives ≡ representatives
     → Totals e saids total steps c representatives

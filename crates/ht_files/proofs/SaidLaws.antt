@@ -16,6 +16,7 @@ use Rattle.ht_engine.specs.Steps.{entries_of, vectors_of_steps}
 use Rattle.ht_files.proofs.OneEntryLaws.{one_entry}
 
 module _ (e : EngineView) (steps : List Step) (i : ℕ) where
+  -- what steps say of a fault agrees with their vectors
   pub agrees_if_said : (said : Said) → IsSaid e.circuit e.settings.start steps i said
       → AgreesWithTests e.circuit e.settings.start (vectors_of_steps steps) i said
   agrees_if_said (Detected place) is = is
@@ -29,6 +30,7 @@ module _ (e : EngineView) (steps : List Step) (i : ℕ) where
       → HasEntry (entries_of steps) i
   has_kind kind is = record { entry = is.kind_is.0; among = is.kind_is.1 }
 
+  -- if what steps say of a fault needs an entry, they have an entry of it
   pub has_entry_if_said : (said : Said) → IsSaid e.circuit e.settings.start steps i said → NeedsEntry said
       → HasEntry (entries_of steps) i
   has_entry_if_said (Detected place) is needs = absurd needs
@@ -51,6 +53,7 @@ module _ (e : EngineView) (steps : List Step) (i : ℕ) where
     same_kind kind is =
         ap said_by_kind (sym (ap kind_of (same_entry is.kind_is.0 is.kind_is.1)) ∙ is.kind_is.2)
 
+    -- an entry of a fault that holds backs what steps say of the fault
     pub backs_if_said : (said : Said) → IsSaid e.circuit e.settings.start steps i said
         → Backs e.circuit e.settings.start e.settings.budget i entry.entry said
     backs_if_said (Detected place) is = tt

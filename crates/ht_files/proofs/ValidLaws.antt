@@ -85,6 +85,7 @@ pub record IsFinishedWork (e : EngineView) (steps : List Step) (saids : List Sai
   pub said : AreSaid e (length (faults_of e.circuit)) saids
 
 module _ (e : EngineView) (steps : List Step) (saids : List Said) (work : IsFinishedWork e steps saids) where
+  -- what a finished engine says of a representative is what its steps say of it
   pub says : (i : ℕ) → IsOwn e.circuit e.representatives i
       → IsSaid e.circuit e.settings.start steps i (said_at saids i)
   says i own = (work.said.says i own.listed own).by_steps steps work.stands
@@ -164,6 +165,7 @@ module _ (e : EngineView) (steps : List Step) (saids : List Said) (work : IsFini
 
   -- ---- the three together
 
+  -- the vectors and the entries of a finished engine's steps justify what it says of each fault
   pub justified : IsJustified e.circuit e.representatives (content_of e.settings steps saids)
   justified = record {
     agrees = λ i own. agrees_if_said e steps i (said_at saids i) (says i own);
@@ -172,6 +174,7 @@ module _ (e : EngineView) (steps : List Step) (saids : List Said) (work : IsFini
     complete = λ i own needs. has_entry_if_said e steps i (said_at saids i) (says i own) needs;
   }
 
+  -- the tests, the report and the proofs of a finished engine are valid files, if each is short enough
   pub are_valid : HasPlainNames e.circuit → length (tests_of steps) ≤ max_text_bytes
       → length (proofs_of e.settings steps) ≤ max_text_bytes
       → length (report_text e.circuit e.representatives (Some e.settings.budget) saids) ≤ max_text_bytes

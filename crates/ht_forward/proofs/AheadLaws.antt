@@ -13,6 +13,7 @@ use Rattle.ht_forward.specs.declared.ahead.Ahead.TheVariants.{Found, Closed, Spe
 use Rattle.ht_forward.specs.AheadSearches.{AheadHolds, IsAhead}
 use Rattle.ht_forward.proofs.FoundLaws.{forward_list_shows, found_within}
 
+-- each answer of the search ahead of two states means what it says of their difference
 pub ahead_holds : (c : Netlist) (fault : Fault) (good faulty : List Tern) (budget : ℕ) (ahead : Ahead)
     → IsTernState c good → IsTernState c faulty
     → IsAhead (forward_window c fault forward_frames good faulty) budget ahead

@@ -37,12 +37,15 @@ frame_known w path frame spot seeks outputs sure =
     (output_place w outputs (record { frame = frame; spot = spot }) first.0).inside
 
 module _ (w : SearchWindow) (budget : ℕ) (list : Rows) (h : FindsList w budget list) where
+  -- the vectors of the list are those that the path decides, up to the sure frame
   pub vectors_are : list.list ≡ list_of w.circuit h.path (h.frame + 1)
   vectors_are = ap (λ (r : Rows). r.list) h.listed
 
+  -- the list has a vector for each frame up to the sure one
   pub frames_are : length list.list ≡ h.frame + 1
   frames_are = ap (λ (vs : List (List Bool)). length vs) vectors_are ∙ list_length w.circuit h.path (h.frame + 1)
 
+  -- the list has at least 1 vector and at most as many as the window has frames, each with a bit for each input
   pub found_within : (most : ℕ) → w.frames ≤ most → IsListWithin w.circuit most list
   found_within most few =
       let long = frames_are in
@@ -64,6 +67,7 @@ module _ (w : SearchWindow) (budget : ℕ) (list : Rows) (h : FindsList w budget
       subst (Shows list.list) last (subst (λ (vs : List (List Bool)). Shows vs h.frame) (sym vectors_are) shown)
 
 module _ (c : Netlist) (fault : Fault) where
+  -- the last vector of a list that a sweep's window finds detects the fault
   pub sweep_list_detects : (frames budget : ℕ) (list : Rows) → FindsList (sweep_window c fault frames) budget list
       → (o : ℕ) × Detects c fault list.list (length list.list - 1) o
   sweep_list_detects frames budget list h =
@@ -72,6 +76,7 @@ module _ (c : Netlist) (fault : Fault) where
       h.sure in
       (shows.0, last_shows w budget list h (λ vs t. Detects c fault vs t shows.0) shows.2)
 
+  -- the last vector of a list that a forward window finds shows the difference of its states at an output
   pub forward_list_shows : (frames : ℕ) (good faulty : List Tern) (budget : ℕ) (list : Rows)
       → IsTernState c good → IsTernState c faulty → FindsList (forward_window c fault frames good faulty) budget list
       → (o : ℕ) × ShowsFrom c fault good faulty list.list (length list.list - 1) o

@@ -8,6 +8,7 @@ use Rattle.ht_forward.specs.Lengths.{left_after}
 use Rattle.ht_forward.proofs.LengthsLaws.{IsClosedTo, frames_few, left_is}
 use Rattle.ht_forward.specs.LengthAnswers.{FindsAfter}
 
+-- a list that the next search finds, with what the closed ones left of the budget, is found after them
 pub finds_after : (guide : ℕ → Guide) (Finds : ℕ → ℕ → Rows → Type 0) (budget frames left : ℕ) (list : Rows)
     (walks : List (List Token)) → IsClosedTo guide budget frames left walks → budget ≤ MAX_BUDGET
     → Finds frames left list → FindsAfter guide Finds budget list walks

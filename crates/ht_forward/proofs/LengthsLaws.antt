@@ -1,12 +1,12 @@
 -- Searches of 1 frame, 2 frames and so on that are closed one after the other, and what the next one makes of them.
-use Rattle.std.proofs.Common.{◌≡◌, ◌<◌, ◌≤◌, ◌+◌, ◌-◌, ◌*◌, ◌++◌, ℕ, suc, zero, List, [], ◌∷◌, length, get_or, refl, sym, ap, subst, arith}
+use Rattle.std.proofs.Common.{◌≡◌, ◌<◌, ◌≤◌, ◌+◌, ◌-◌, ◌*◌, ◌++◌, ℕ, suc, zero, List, [], ◌∷◌, length, get_or, sym, ap, subst, arith}
 use Rattle.std.proofs.lemmas.List.{length_push, get_or_push, get_or_append_left}
 use Rattle.ht_events.specs.Plans.{max_frames}
 use Rattle.ht_tree.specs.declared.limits.TheConstants.{MAX_BUDGET}
 use Rattle.ht_tree.specs.declared.token.Token.{Token}
 use Rattle.ht_tree.specs.SearchRecords.{Fills, sweep_weight}
-use Rattle.ht_tree.specs.Searches.{Closes, Guide, SpendsAt}
-use Rattle.ht_tree.specs.Walks.{IsComplete, IsOpen, Judge, Node, weight_of}
+use Rattle.ht_tree.specs.Searches.{Closes, Guide}
+use Rattle.ht_tree.specs.Walks.{IsComplete, IsOpen, Judge, weight_of}
 use Rattle.ht_forward.proofs.WeightLaws.{complete_weighs, least_weight, lengths_few, longest_weighs, weight_push}
 use Rattle.ht_forward.specs.Lengths.{CloseEach, IsLengthRecord, SpendEach, left_after}
 
@@ -25,6 +25,7 @@ module _ (guide : ℕ → Guide) where
       subst (λ (b : ℕ). Closes (guide frames') b frames' walk) left
       (subst (λ (n : ℕ). Closes (guide n) budget n walk) count h)
 
+  -- closed searches and the next one that is closed too are searches that are closed, one after the other
   pub closes_push : (budget frames : ℕ) (walks : List (List Token)) (walk : List Token)
       → CloseEach guide budget frames walks
       → Closes (guide (frames + length walks)) (budget - sweep_weight frames walks) (frames + length walks) walk
@@ -40,6 +41,7 @@ module _ (guide : ℕ → Guide) where
             (omega arith) (omega arith) closes),
       )
 
+  -- the walk at index k of closed searches is complete, in the window of k frames more than the first
   pub close_at : (budget frames : ℕ) (walks : List (List Token)) → CloseEach guide budget frames walks
       → (k : ℕ) → k < length walks → IsComplete (guide (frames + k)).judge (get_or walks k [])
   close_at budget frames [] h k l = absurd (omega (arith, l))
@@ -69,9 +71,11 @@ module _ (guide : ℕ → Guide) where
 
   module _ (budget frames left : ℕ) (walks : List (List Token)) (closed : IsClosedTo guide budget frames left walks)
     where
+      -- what is left of the budget is the budget without the weight of the walks
       pub left_is : left ≡ left_after budget walks
       left_is = let weight = closed.weight in omega (arith, weight)
 
+      -- no search within the largest budget has more frames than the longest window
       pub frames_few : budget ≤ MAX_BUDGET → frames ≤ max_frames
       frames_few small =
           let weight = closed.weight in
@@ -80,18 +84,6 @@ module _ (guide : ℕ → Guide) where
           let few = lengths_few (length walks) (sweep_weight 1 walks) closed.heavy (omega (arith, weight, small, longest))
           in
           omega (arith, few, count)
-
-      pub one_spends : (last : List Token) (n : Node) → SpendsAt (guide frames) left frames last n
-          → SpendEach guide budget (walks ++ last ∷ [])
-      one_spends last n h = record {
-        closed = walks;
-        last = last;
-        node = n;
-        all = refl;
-        closes = closed.closes;
-        spends = subst (λ (k : ℕ). SpendsAt (guide k) (left_after budget walks) k last n) closed.count
-            (subst (λ (b : ℕ). SpendsAt (guide frames) b frames last n) left_is h);
-      }
 
       one_closes : (walk : List Token) (left' : ℕ) → Closes (guide frames) left frames walk
           → left' ≡ left - weight_of frames walk → IsClosedTo guide budget (frames + 1) left' (walks ++ walk ∷ [])
@@ -156,6 +148,7 @@ module _ (guide : ℕ → Guide) where
           full = omega (arith, push, times, full, before, n);
         }
 
+    -- the walks of searches that spend the budget are a record of these searches
     pub spends_record : IsLengthRecord judge budget walks
     spends_record =
         subst (IsLengthRecord judge budget) (sym h.all)

@@ -21,6 +21,7 @@ use Rattle.ht_forward.specs.Sweeps.{FindsShort, IsSwept, IsSweptFrom, IsSweptLis
 use Rattle.ht_forward.proofs.FoundLaws.{forward_list_shows, sweep_list_detects}
 use Rattle.ht_forward.proofs.LengthsLaws.{IsClosedTo, left_is, spends_record}
 
+-- the last vector of a list that a sweep from all-unknown finds detects the fault, after any other list too
 pub list_is_swept : (c : Netlist) (fault : Fault) (budget : ℕ) (list : Rows)
     → SweepFinds c fault unknown budget list → IsListWithin c max_frames list → IsSweptList c fault list
 list_is_swept c fault budget list h vectors =
@@ -64,6 +65,7 @@ spends_each c fault start budget walks h = record {
   spends = h.spends.1;
 }
 
+-- the walks of a sweep from all-unknown that spends its budget are a sweep record of the fault
 pub spends_sweep : (c : Netlist) (fault : Fault) (budget : ℕ) (walks : List (List Token))
     → SweepSpends c fault unknown budget walks → IsSweepRecord c fault budget walks
 spends_sweep c fault budget walks h =
@@ -72,11 +74,13 @@ spends_sweep c fault budget walks h =
 
 -- ---- what the answers mean
 
+-- each answer of a sweep from all-unknown means what it says: a list that detects, or a sweep record
 pub swept_holds : (c : Netlist) (fault : Fault) (budget : ℕ) (swept : Swept) → IsSwept c fault budget swept
     → FindsShort c swept → SweptHolds c fault budget swept
 swept_holds c fault budget (Found list) h short = list_is_swept c fault budget list h short
 swept_holds c fault budget (Spent walks) h short = spends_sweep c fault budget walks h
 
+-- a list that a sweep from two states finds shows their difference at its last vector
 pub swept_on_holds : (c : Netlist) (fault : Fault) (good faulty : List Tern) (budget : ℕ) (swept : Swept)
     → IsTernState c good → IsTernState c faulty → IsSweptFrom c fault (state_pair good faulty) budget swept
     → FindsShort c swept → SweptOnHolds c fault good faulty swept

@@ -7,6 +7,7 @@ use Rattle.ht_tree.specs.SearchRecords.{sweep_weight}
 use Rattle.ht_tree.specs.Walks.{IsComplete, Judge, Node, weight_of}
 use Rattle.ht_events.specs.Plans.{max_frames}
 
+-- one more walk adds its weight in the next window to the weight of the walks
 pub weight_push : (frames : ℕ) (walks : List (List Token)) (walk : List Token)
     → sweep_weight frames (walks ++ walk ∷ []) ≡ sweep_weight frames walks + weight_of (frames + length walks) walk
 weight_push frames [] walk =
@@ -24,6 +25,7 @@ abbrev pub least_weight : ℕ → ℕ
 least_weight zero = 0
 least_weight (suc k) = least_weight k + suc k
 
+-- a token for each length up to the longest window weighs 100128 together
 pub longest_weighs : least_weight max_frames ≡ 100128
 longest_weighs = refl
 
@@ -32,6 +34,7 @@ least_more zero n h = omega arith
 least_more (suc k) zero h = absurd (omega (arith, h))
 least_more (suc k) (suc n) h = let rest = least_more k n (omega (arith, h)) in omega (arith, rest, h)
 
+-- a weight below that of all lengths up to the longest window covers fewer lengths than these
 pub lengths_few : (k weight : ℕ) → least_weight k ≤ weight → weight < least_weight max_frames → k < max_frames
 lengths_few k weight h light = elim (le_or_lt max_frames k) [
   | inl long ↦ let more = least_more max_frames k long in absurd (omega (arith, more, h, light))
@@ -46,6 +49,7 @@ complete_some : (j : Judge) (tokens : List Token) → IsComplete j tokens → 0 
 complete_some j [] h = absurd (node_left _ _ h.finished)
 complete_some j (t ∷ tokens) h = omega arith
 
+-- a complete walk weighs at least as much as its window has frames
 pub complete_weighs : (j : Judge) (frames : ℕ) (walk : List Token) → IsComplete j walk → frames ≤ weight_of frames walk
 complete_weighs j frames walk h =
     let times = mul-le-mul_right frames (complete_some j walk h) in

@@ -37,6 +37,7 @@ unfolding forced
 plain_pin stick None g i v h = refl
 plain_pin stick (Some f) g i v h = kept_pin (is_pin f.site g i) (stick f.value v) v (no_pin f.site g i h)
 
+-- where no pin of a gate is stuck, its pins show the values of their nets
 pub plain_pins : {V : Type 0} → (blank : V) (gate : Kind → List V → V) (stick : Bool → V → V) (fault : Option Fault)
     (g : ℕ) (env : ℕ → V) (n : ℕ) (args : List NetId) → is_at_gate fault g ≡ false
     → pin_values (rules_of blank gate stick fault) g env n args ≡ values_at env args

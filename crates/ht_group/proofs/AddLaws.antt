@@ -30,6 +30,7 @@ module _ (c : Netlist) (n : ℕ) (words : List Machines) (old new : Machines) (f
   abbrev written : List Machines
   written = set words (n / 64) new
 
+  -- with fewer than 256 machines the next of the four words is there
   pub next_inside : n / 64 < length words
   next_inside = omega (arith, few, four)
 
@@ -39,6 +40,7 @@ module _ (c : Netlist) (n : ℕ) (words : List Machines) (old new : Machines) (f
   is_old : (v : ℕ) (d : Machines) → v ≢ next → get_or written v d ≡ get_or words v d
   is_old v d ne = get_or-set_other words next v new d ne
 
+  -- after the next word is written and more nets are pending, each of the four is still a word of the group
   pub written_words : (s : Schedule) (frame : GoodFrame) (before pending : List Bool)
       → ((r : ℕ) → get_or before r false ≡ true → get_or pending r false ≡ true)
       → AreWords c s frame before words → IsWord c s frame pending new → AreWords c s frame pending written
@@ -81,12 +83,14 @@ module _ (c : Netlist) (n : ℕ) (words : List Machines) (old new : Machines) (f
 
     -- The word has one machine more.
     module _ (one : FaultyMachine) (more : HasOneMore c old one new) where
+      -- after the next word got a machine more, the words are filled with one more
       pub added_filled : AreFilled (n + 1) written
       added_filled =
           let count = new_count 1
           (ap (λ (l : List FaultyMachine). length l) more ∙ length-append (machines_of c old) (one ∷ [])) in
           filled_with (n + 1) (omega (arith, count)) (λ v ne. omega (arith, ne))
 
+      -- after the next word got a machine more, all machines are those before and then that one
       pub added_machines : flat_map (machines_of c) written ≡ flat_map (machines_of c) words ++ one ∷ []
       added_machines = more_at (machines_of c) words n next new one old (omega arith) (omega arith) next_inside
           (filled_machines c n words filled)
@@ -94,6 +98,7 @@ module _ (c : Netlist) (n : ℕ) (words : List Machines) (old new : Machines) (f
 
     -- or the same machines
     module _ (same : HasSame c old new) where
+      -- after the next word was written with the same machines, the words are filled as before
       pub same_filled : AreFilled n written
       same_filled =
           let size = ap (λ (l : List FaultyMachine). length l) same in

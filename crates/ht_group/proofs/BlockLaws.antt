@@ -32,6 +32,7 @@ module _ {A B : Type 0} (f : A → List B) where
       let same : min 64 (n - 64 * 0) ≡ min 64 n = omega arith in
       full 0 x (omega arith) ∙ same
 
+  -- lists that are filled with n items have n in all
   pub all_count : (xs : List A) (n : ℕ) → n ≤ 64 * length xs → AreFull n xs → length (flat_map f xs) ≡ n
   all_count [] n few full = omega arith
   all_count (x ∷ xs) n few full =
@@ -40,6 +41,7 @@ module _ {A B : Type 0} (f : A → List B) where
       let both = length-append (f x) (flat_map f xs) in
       omega (arith, rest, first, both)
 
+  -- lists that are filled with no items have none in all
   pub none_left : (xs : List A) (n : ℕ) → n ≡ 0 → AreFull n xs → flat_map f xs ≡ []
   none_left xs n none full = nil_from_length (flat_map f xs) (all_count xs n (omega arith) full ∙ none)
 

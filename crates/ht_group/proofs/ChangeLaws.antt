@@ -63,6 +63,7 @@ module _ (c : Netlist) (s : Schedule) (frame : GoodFrame) where
   more_pending before pending m more = over_pending before pending m
       (λ was k r below inside idle. was.quiet k r below inside (not_before before pending more r idle))
 
+  -- a word that has no machines and lies over no frame is a word, whatever is pending
   pub bare_word : (pending : List Bool) (m : Machines) → IsBare c m → IsWord c s frame pending m
   bare_word pending m bare = record {
     room = bare.room;
@@ -156,6 +157,7 @@ module _ (c : Netlist) (s : Schedule) (frame : GoodFrame) where
         quiet = laid.quiet;
       }
 
+  -- a word with machines that ran and were kept is a word, with what is pending after the run
   pub ran_word : (before pending : List Bool) (old new : Machines) → 0 < length old.lines.faults.items
       → IsWord c s frame before old → AreMachinesKept old new → AreRunning c s pending new
       → IsWord c s frame pending new
@@ -291,6 +293,7 @@ pub kept_itself : (old new : Machines) → new ≡ old → AreMachinesKept old n
 kept_itself old new same = subst (λ (m : Machines). AreMachinesKept old m) (sym same)
     (record { lines = refl; sources = refl; good = refl; laid = refl })
 
+-- machines that are kept twice are kept
 pub kept_twice : (a b d : Machines) → AreMachinesKept a b → AreMachinesKept b d → AreMachinesKept a d
 kept_twice a b d first second = record {
   lines = second.lines ∙ first.lines;
@@ -347,6 +350,7 @@ module _ (c : Netlist) (s : Schedule) (is : IsSchedule c s) (before pending : Li
       (lane_env k old.nets.words) (lane_env k new.nets.words) before pending rank x
       inside net (done.given k below) (done.others k) (kept k) (λ p. running.quiet k p below) q)
 
+  -- after a word that has run evaluates one more net, it has run with the same machines
   pub run_on : (start old new : Machines) → HaveRun c s before start old → IsComputed c x changed old new
       → HaveRun c s pending start new
   run_on start old new ran done = record {
@@ -354,6 +358,7 @@ module _ (c : Netlist) (s : Schedule) (is : IsSchedule c s) (before pending : Li
     running = fired_running old new ran.running done;
   }
 
+  -- after each of the first words evaluates one more net, they have run and the others are as before
   pub first_run_on : (used : ℕ) (start old new : List Machines) → AreFirstChanged used (HaveRun c s before) start old
       → AreFirstChanged used (IsComputed c x changed) old new → AreFirstChanged used (HaveRun c s pending) start new
   first_run_on used start old new ran done = record {

@@ -15,6 +15,7 @@ pub drive_low : {V : Type 0} → (c : Netlist) (r : Rules V) (sources : List V) 
     → x < first_gate_net c → drive_from c r sources env x ≡ get_or sources x r.blank
 drive_low c r sources env x low = grind (arith, nat_tests)
 
+-- a net that is no input and no flip-flop is driven by its gate
 pub drive_gate : {V : Type 0} → (c : Netlist) (r : Rules V) (sources : List V) (env : ℕ → V) (x : ℕ)
     → first_gate_net c ≤ x → drive_from c r sources env x ≡ gate_output c r env (x - first_gate_net c)
 drive_gate c r sources env x high = grind (arith, nat_tests)

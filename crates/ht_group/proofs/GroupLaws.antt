@@ -80,10 +80,12 @@ module _ (c : Netlist) (s : Schedule) (frame : GoodFrame) (pending : List Bool) 
       (drop c.inputs ((laid.spare k free below ∙ laid.sources) i)) x)
 
 module _ (a : Inside) (g : IsGroup a) where
+  -- the good value that a group's frame has of a net is the net's value in the good machine
   pub good_of : (x : ℕ) → x < net_count a.frame.circuit.now
       → get_or a.frame.good.values.items x Unk ≡ good_value (group_of a) x
   good_of x inside = g.frame.good.values x inside
 
+  -- a group has as many machines as its count says
   pub group_count : length (group_of a).machines ≡ a.count
   group_count =
       let n = g.word_count in
@@ -91,12 +93,14 @@ module _ (a : Inside) (g : IsGroup a) where
       all_count (machines_of a.frame.circuit.now) a.words.items a.count (omega (arith, n, few))
       (filled_machines a.frame.circuit.now a.count a.words.items g.filled)
 
+  -- a group with fewer than 256 machines has a count below 256
   pub group_room : (v : GroupView) → group_of a ≡ v → length v.machines < 256 → a.count < 256
   group_room v is room =
       let count = group_count in
       let same = ap (λ (u : GroupView). length u.machines) is in
       omega (arith, room, count, same)
 
+  -- a word that the machines of a group take is one that its count takes
   pub used_word : (v : GroupView) → group_of a ≡ v → (w : ℕ) → w < words_for (length v.machines)
       → w < words_for a.count
   used_word v is w used =
@@ -104,6 +108,7 @@ module _ (a : Inside) (g : IsGroup a) where
       let same = ap (λ (u : GroupView). length u.machines) is in
       omega (arith, used, count, same)
 
+  -- a word that the count takes is one of the group's words
   pub word_inside : (w : ℕ) → w < words_for a.count → w < length a.words.items
   word_inside w used = let n = g.word_count in let few = g.few in omega (arith, used, n, few)
 
@@ -112,19 +117,23 @@ module _ (a : Inside) (g : IsGroup a) where
     abbrev m : Machines
     m = get_or a.words.items w d
 
+    -- a used word has a good value for each net of the circuit
     pub word_room : length m.nets.good ≡ net_count a.frame.circuit.now
     word_room =
         let n = g.word_count in
         (g.words w d (let i = word_inside w used in omega (arith, i, n))).room.nets
 
+    -- a used word has the stuck lines of the circuit with its faults
     pub word_stuck : AreStuck a.frame.circuit.now m.lines
     word_stuck =
         let n = g.word_count in
         (g.words w d (let i = word_inside w used in omega (arith, i, n))).room.stuck
 
+    -- a used word has what is left of the machines after the words before it, up to 64
     pub word_filled : length m.lines.faults.items ≡ min 64 (a.count - 64 * w)
     word_filled = g.filled w d (word_inside w used)
 
+    -- a used word lies over the group's frame
     pub word_laid : IsLaid a.frame.circuit.now a.frame.schedule a.frame.good a.frame.pending m
     word_laid =
         let n = g.word_count in
@@ -132,6 +141,7 @@ module _ (a : Inside) (g : IsGroup a) where
         word.laid (has_laid a.frame.circuit.now a.frame.schedule a.frame.good a.frame.pending m
         (let f = word_filled in omega (arith, f, used)) word)
 
+    -- machine 64 * w + k of a group is machine k of word w
     pub word_machine : (k : ℕ) → k < 64 → slice_get (group_of a).machines (64 * w + k)
         ≡ slice_get (machines_of a.frame.circuit.now m) k
     word_machine k below =
@@ -152,6 +162,7 @@ module _ (a : Inside) (g : IsGroup a) where
         lane_read words i word inside has k
         ∙ ((λ j. lane_env k (net_words j) (at j)) ∙ ap (λ (o : Machines). lane_env k o.nets.words x) is)
 
+    -- in a settled group a lane with a machine has that machine's value of each net
     pub word_value : (v : GroupView) → group_of a ≡ v → v.settled ≡ true → (x : ℕ) → x < net_count v.circuit
         → (k : ℕ) (o : FaultyMachine) → k < 64 → slice_get v.machines (64 * w + k) ≡ Some o
         → lane_env k m.nets.words x ≡ faulty_value v o x
@@ -169,6 +180,7 @@ module _ (a : Inside) (g : IsGroup a) where
         let f = word_filled in
         omega (arith, past, count, f)
 
+    -- in a settled group a lane without a machine has the good value of each net
     pub word_spare : (v : GroupView) → group_of a ≡ v → v.settled ≡ true → (x : ℕ) → x < net_count v.circuit
         → (k : ℕ) → k < 64 → length v.machines ≤ 64 * w + k → lane_env k m.nets.words x ≡ good_value v x
     word_spare v view =
@@ -186,6 +198,7 @@ module _ (a : Inside) (g : IsGroup a) where
         (machine_at 0 m.lines.faults.items (drop a.frame.circuit.now.inputs m.sources.words) k o
         (sym (word_machine k below) ∙ has)).fault
 
+    -- a lane without a machine has no fault
     pub spare_lane : (k : ℕ) → k < 64 → length (group_of a).machines ≤ 64 * w + k
         → slice_get m.lines.faults.items k ≡ None
     spare_lane k below past = slice_get_past m.lines.faults.items k (free_lane k below past)

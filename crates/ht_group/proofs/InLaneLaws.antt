@@ -16,6 +16,7 @@ pub lane_read : (words : List Lanes) (x : ℕ) (w : Lanes) → x < length words 
 lane_read words x w inside is k =
     ap (λ (v : Lanes). lane v k) is ∙ sym (get_or-map (λ (v : Lanes). lane v k) words x w Unk inside)
 
+-- a net's value in a lane is that lane of the net's word
 pub lane_get : (k : ℕ) → k < 64 → (words : List Lanes) (x : ℕ) → lane_env k words x ≡ lane (word_at words x) k
 lane_get k below words x =
     ap (get_or (in_lane k words) x) (sym (lane_of_each (λ i. Unk) k below))
@@ -29,6 +30,7 @@ lane_written words x w inside k =
     ap (λ (l : List Tern). get_or l x Unk) (map-set f words x w)
     ∙ get_or-set_same (in_lane k words) x (lane w k) Unk (let e = length-map words f in omega (arith, e, inside))
 
+-- after a word is written, every other net has the same value in each lane as before
 pub lane_unwritten : (words : List Lanes) (x : ℕ) (w : Lanes) (k y : ℕ) → y ≢ x
     → lane_env k (set words x w) y ≡ lane_env k words y
 lane_unwritten words x w k y ne =

@@ -12,6 +12,7 @@ use Rattle.ht_group.specs.LaneRules.{in_lane, lane_env}
 use Rattle.ht_group.specs.Overlays.{IsGoodWord}
 use Rattle.ht_group.proofs.InLaneLaws.{lane_written, lane_unwritten}
 
+-- where each word has its good value in every lane, every lane has the good values
 pub good_words : (good : List Tern) (words : List Lanes) → length words ≡ length good
     → ((i : ℕ) → i < length good → IsGoodWord good words i) → (k : ℕ) → k < 64 → in_lane k words ≡ good
 good_words good words count each k below =

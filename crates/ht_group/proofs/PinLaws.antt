@@ -55,6 +55,7 @@ by_pin : (b : Bool) (v u : Tern) → cond (b && true) v u ≡ cond b v u
 by_pin true v u = refl
 by_pin false v u = refl
 
+-- a choice by a condition that is false is the second value
 pub by_none : (b : Bool) (v u : Tern) → cond (b && false) v u ≡ u
 by_none true v u = refl
 by_none false v u = refl
@@ -70,6 +71,7 @@ all_left faults g lanes old are i k within below =
     left_to_stick (is_set lanes k) (lane_env k old i) ((rules_at faults k).pin g i (lane_env k old i))
     (λ h. plain_pin _ (slice_get faults k) g i (lane_env k old i) (sym (are k below) ∙ h))
 
+-- after no lane is left to be stuck, each pin has in each lane what the lane's machine has there
 pub none_left : (faults : List Fault) (g rest : ℕ) (old pins : List Lanes) → rest ≡ 0
     → ArePinsBut faults g rest old pins
     → (i k : ℕ) → i < 256 → k < 64 → lane_env k pins i ≡ (rules_at faults k).pin g i (lane_env k old i)
@@ -120,6 +122,7 @@ pub record IsFirstLane (faults : List Fault) (g rest k : ℕ) : Type 0 where
   pub here : is_pin_of fault.site g ≡ true
   pub within : k < length faults
 
+-- the lowest lane that is left has its fault at a pin of the gate
 pub first_lane : (faults : List Fault) (g rest : ℕ) → 0 < rest → rest < 2 ^ 64 → AreLeft faults g rest
     → IsFirstLane faults g rest (trailing_zeros w64 rest)
 first_lane faults g rest some fits left =
@@ -162,6 +165,7 @@ rest_smaller rest k small bit =
       | inr p ↦ let ne : with_bit rest k false ≢ rest = p.1 in omega arith
     ]
 
+-- the lanes that are left after one more is stuck all have their fault at the gate
 pub rest_left : (faults : List Fault) (g rest k : ℕ) → k < 64 → AreLeft faults g rest
     → AreLeft faults g (with_bit rest k false)
 rest_left faults g rest k small left n below is = elim (eqb_tells n k) [
@@ -180,6 +184,7 @@ pin_get r g e n (a ∷ args) (suc i) d h =
     let same : n + 1 + i ≡ n + suc i = omega arith in
     pin_get r g e (n + 1) args i d (omega arith) ∙ ap (λ m. r.pin g m (e (get_or args i no_net).0)) same
 
+-- pins that have in each lane what its machine has there are, in a lane, the values of the gate's pins
 pub stuck_pins : (faults : List Fault) (k g : ℕ) (words : List Lanes) (args : List NetId) (old pins : List Lanes)
     → k < 64 → length args ≤ 255 → length pins ≡ 256
     → ((i n : ℕ) → i < length args → lane_env n old i ≡ lane_env n words (get_or args i no_net).0)

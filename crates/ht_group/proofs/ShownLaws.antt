@@ -8,6 +8,7 @@ use Rattle.ht_net.specs.Frame.{Rules, net_value, frame_outputs, next_state, data
 use Rattle.ht_net.specs.Faults.{forced, tern_rules}
 use Rattle.ht_net.proofs.ValueLaws.{seen_get}
 
+-- an output shows in a frame the value of its net
 pub shown_at : (c : Netlist) (r : Rules Tern) (vector latches : List Tern) (o : ℕ) → o < length c.outputs
     → net_value c r vector latches (get_or c.outputs o no_net).0 ≡ get_or (frame_outputs c r vector latches) o Unk
 unfolding frame_outputs
@@ -21,6 +22,7 @@ taken_get r env j (x ∷ xs) (suc i) h =
     let at : j + 1 + i ≡ j + suc i = omega arith in
     taken_get r env (j + 1) xs i (omega arith) ∙ ap (λ (n : ℕ). r.data_pin n (env (get_or xs i no_net).0)) at
 
+-- a flip-flop takes at the end of a frame what its data pin makes of the value of the net there
 pub next_at : (c : Netlist) (r : Rules Tern) (vector latches : List Tern) (j : ℕ) → j < length c.dffs
     → r.data_pin j (net_value c r vector latches (get_or c.dffs j no_net).0)
     ≡ get_or (next_state c r vector latches) j Unk

@@ -36,12 +36,14 @@ slot_is_stem c x (Stem y) inside at = refl
 slot_is_stem c x (GatePin g i) inside at = ne_eqb x (gate_slot c g) (omega arith)
 slot_is_stem c x (DffPin j) inside at = ne_eqb x (dff_slot c j) (omega arith)
 
+-- a gate's slot is a site's exactly where the site is a pin of that gate
 pub slot_is_gate : (c : Netlist) (g : ℕ) (site : Site) → g < length c.gates → HasSite c site
     → eqb (gate_slot c g) (slot_of c site) ≡ is_pin_of site g
 slot_is_gate c g (Stem y) inside at = ne_eqb (gate_slot c g) y.0 (omega arith)
 slot_is_gate c g (GatePin h i) inside at = eqb_shift (net_count c) g h
 slot_is_gate c g (DffPin j) inside at = ne_eqb (gate_slot c g) (dff_slot c j) (omega arith)
 
+-- the slot of a flip-flop's data pin is a site's exactly where the site is that pin
 pub slot_is_data_pin : (c : Netlist) (j : ℕ) (site : Site) → HasSite c site
     → eqb (dff_slot c j) (slot_of c site) ≡ is_data_pin site j
 slot_is_data_pin c j (Stem y) at = ne_eqb (dff_slot c j) y.0 (omega arith)
@@ -59,6 +61,7 @@ forced_by c (Some f) s is_site stuck value v at is =
     let p = is f refl in
     λ i. cond ((at ∙ p.1) i) (tern_of (p.0 i)) v
 
+-- a word that is stuck by a slot's lanes has in each lane what the lane's fault forces at the slot
 pub slot_forces : (c : Netlist) (faults : List Fault) (ones : ℕ) (table : List ℕ) → IsStuckTable c faults ones table
     → (s : ℕ) → s < slot_count c → (is_site : Site → Bool)
     → ((site : Site) → HasSite c site → eqb s (slot_of c site) ≡ is_site site)
@@ -75,6 +78,7 @@ at_gate_is : (c : Netlist) (fault : Option Fault) (g : ℕ) → g < length c.gat
 at_gate_is c None g inside within = refl
 at_gate_is c (Some f) g inside within = slot_is_gate c g f.site inside (within f refl)
 
+-- the lanes in a gate's slot are those whose fault is at a pin of that gate
 pub gate_lanes_are : (c : Netlist) (faults : List Fault) (ones : ℕ) (table : List ℕ) → IsStuckTable c faults ones table
     → (g k : ℕ) → g < length c.gates → k < 64 → is_set (get_or table (gate_slot c g) 0) k
     ≡ is_at_gate (slice_get faults k) g
@@ -113,6 +117,7 @@ pub slice_at_end : {X : Type 0} → (xs : List X) (x : X) → slice_get (xs ++ x
 slice_at_end [] x = refl
 slice_at_end (y ∷ xs) x = slice_at_end xs x
 
+-- a list with one item more has the same item as before at each index but the new last one
 pub slice_other : {X : Type 0} → (xs : List X) (x : X) (k : ℕ) → k ≢ length xs
     → slice_get (xs ++ x ∷ []) k ≡ slice_get xs k
 slice_other [] x zero ne = absurd (ne refl)
@@ -216,6 +221,7 @@ pub fault_more : (c : Netlist) (faults : List Fault) (ones : ℕ) (table : List 
 fault_more c faults ones table f s faults' ones' table' t room site is within a b e =
     rw (a, b, e) (fault_added c faults ones table f s t room site is within)
 
+-- after the last fault's lane is cleared in its slot, the table has the faults before it
 pub fault_less : (c : Netlist) (faults : List Fault) (ones : ℕ) (table : List ℕ) (f : Fault) (s : ℕ)
     (all : List Fault) (table' : List ℕ)
     → IsStuckTable c all ones table → all ≡ faults ++ f ∷ [] → s ≡ slot_of c f.site → s < slot_count c

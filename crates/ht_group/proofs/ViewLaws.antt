@@ -7,6 +7,7 @@ use Rattle.ht_group.specs.GroupView.{FaultyMachine}
 use Rattle.ht_group.specs.MachineWords.{machines_from}
 use Rattle.ht_group.specs.LaneRules.{in_lane}
 
+-- there are as many machines as faults
 pub machine_count : (n : ℕ) (faults : List Fault) (latches : List Lanes)
     → length (machines_from n faults latches) ≡ length faults
 machine_count n [] latches = refl
@@ -17,6 +18,7 @@ pub record IsMachineOf (faults : List Fault) (words : List Lanes) (n k : ℕ) (m
   pub fault : slice_get faults k ≡ Some m.fault
   pub latches : m.latches ≡ in_lane (n + k) words
 
+-- machine k has fault k and the latches of its lane
 pub machine_at : (n : ℕ) (faults : List Fault) (latches : List Lanes) (k : ℕ) (m : FaultyMachine)
     → slice_get (machines_from n faults latches) k ≡ Some m → IsMachineOf faults latches n k m
 machine_at n [] latches k m h = cc

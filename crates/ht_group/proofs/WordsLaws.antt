@@ -84,11 +84,13 @@ pub bare_filled : (c : Netlist) (words : List Machines) → length words ≡ 4
 bare_filled c words four bare w d inside =
     let none = ap (λ (l : List Fault). length l) (bare w d (omega (arith, inside, four))).none in omega (arith, none)
 
+-- words that are filled with no machines have none in all
 pub no_machines : (c : Netlist) (words : List Machines) → AreFilled 0 words → flat_map (machines_of c) words ≡ []
 no_machines c words filled =
     let zero : 0 ≡ 0 = omega arith in none_left (machines_of c) words 0 zero (filled_machines c 0 words filled)
 
 module _ (c : Netlist) (s : Schedule) (frame : GoodFrame) where
+  -- words that have no machines and lie over no frame are words of a group
   pub bare_words : (pending : List Bool) (words : List Machines)
       → ((w : ℕ) (d : Machines) → w < 4 → IsBare c (get_or words w d)) → AreWords c s frame pending words
   bare_words pending words bare w d inside = bare_word c s frame pending (get_or words w d) (bare w d inside)
@@ -118,6 +120,7 @@ module _ (c : Netlist) (s : Schedule) (frame : GoodFrame) where
     -- They are taken away.
     module _ (circuit : IsCircuit c) (schedule : IsSchedule c s) (good : IsGoodFrame c frame)
         (back : (w : ℕ) (d : Machines) → w < words_for n → IsRestored c (get_or old w d) (get_or new w d)) where
+      -- after the machines are taken away, each word is still a word of the group
       pub cleared_words : AreWords c s frame pending new
       cleared_words w d inside = elim (cases_lt w (words_for n)) [
         | inl used ↦ restored_word c s frame circuit schedule good before pending (get_or old w d) (get_or new w d)
@@ -125,6 +128,7 @@ module _ (c : Netlist) (s : Schedule) (frame : GoodFrame) where
         | inr past ↦ unused_word w d inside past
       ]
 
+      -- after the machines are taken away, the words are filled with none
       pub cleared_filled : AreFilled 0 new
       cleared_filled w d inside = elim (cases_lt w (words_for n)) [
         | inl used ↦
@@ -136,11 +140,13 @@ module _ (c : Netlist) (s : Schedule) (frame : GoodFrame) where
             omega (arith, none, free)
       ]
 
+-- words whose machines are kept are filled as before
 pub kept_filled : (n : ℕ) (old new : List Machines) → length new ≡ length old → AreFilled n old
     → ((w : ℕ) (d : Machines) → AreMachinesKept (get_or old w d) (get_or new w d)) → AreFilled n new
 kept_filled n old new same filled kept w d inside =
     ap (λ (l : StuckLines). length l.faults.items) (kept w d).lines ∙ filled w d (omega (arith, inside, same))
 
+-- words whose machines are kept have the same machines in all
 pub kept_machines : (c : Netlist) (old new : List Machines) → length new ≡ length old
     → ((w : ℕ) (d : Machines) → AreMachinesKept (get_or old w d) (get_or new w d))
     → flat_map (machines_of c) new ≡ flat_map (machines_of c) old

@@ -60,6 +60,7 @@ late_refused (respond netlist tests out number start) texts basis a Tests status
 late_refused (respond netlist tests out number start) texts basis a port status faults late r above before told = r
 late_refused job texts basis a port status faults late r above before told = above
 
+-- a job whose inputs are refused doesn't end because the fault that it names isn't the circuit's
 pub lacks_refused : (job : Asked) (status : ℕ) (a b : DeskView) (faults : ℕ) → HasRefusedInputs job status a
     → ¬ LacksFault job faults a b
 lacks_refused job status a b faults refused h =
@@ -151,6 +152,7 @@ no_tests (respond netlist tests out number start) a b line h lacks =
     unlisted_accepts job a lacks h.0.basis (h.0.before Netlist before) h.1
 no_tests job a b line h lacks = lacks.unlisted tt
 
+-- if the fault that a job names isn't the circuit's, reading ends with 12, 4 (read fault) or 6 (no memory)
 pub stops_unlisted : (job : Asked) (a b : DeskView) (e : RunError) → StopsReading job a b e → HasNoSuchFault job a
     → (exit_status e ≡ 12) ⊎ (exit_status e ≡ 4) ⊎ (exit_status e ≡ 6)
 stops_unlisted job a b Usage h lacks = absurd h

@@ -54,6 +54,7 @@ module _ (basis : JobBasis) (text : List ℕ) (before : List (List ℕ)) (fine :
       fault_parts (length before + 1) refl wrong in
       record { wrong = first.wrong; first = first.first }
 
+  -- after fine lines, one with which no list of faults goes on is the first malformed one
   pub bad_fault : (line : List ℕ) (error : RunError) → HasFront (before ++ line ∷ []) text
       → IsNoFault basis before line error → IsBadAt (length before + 1)
   bad_fault line error front wrong =
@@ -63,6 +64,7 @@ module _ (basis : JobBasis) (text : List ℕ) (before : List (List ℕ)) (fine :
         none = λ found. wrong.1 found.0 (subst (λ l. AreFaultLines (fault_count basis) l found.0) is found.1);
       }))
 
+  -- after fine lines, one that is too long for a list of faults is the first malformed one
   pub long_fault : fault_count basis < 2 ^ 64 → HasLongLine MAX_LINE_BYTES before text → IsBadAt (length before + 1)
   long_fault few long = bad_at long.front (elim long.long [
     | inl wide ↦ inl (record {
@@ -82,6 +84,7 @@ module _ (job : Asked) (basis : JobBasis) (name : List ℕ) (a b : DeskView) whe
   abbrev Stops : RunError → Type 0
   Stops = ReadStops job basis Faults name a b
 
+  -- what stops the lines of a list of faults is why reading the file ends the run
   pub faults_stop : {most : ℕ} {e : RunError} → fault_count basis < 2 ^ 64
       → LinesStop (IsNoFault basis) BadFaults MAX_LINE_BYTES most Faults name a b e → Stops e
   faults_stop few stops = lines_stop Stops (λ fault. fault) tt

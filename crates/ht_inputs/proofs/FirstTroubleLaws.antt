@@ -55,6 +55,7 @@ module _ (IsWrong : List (List ℕ) → List ℕ → RunError → Type 0) (text 
     pub counted : (0 < n) × (n ≤ length (lines_of text))
     pub wrong : IsWrong (take (n - 1) (lines_of text)) (get_or (lines_of text) (n - 1) []) error
 
+  -- a line that is wrong after those before it is the text's trouble at its number
   pub at_line : (before : List (List ℕ)) (line : List ℕ) → HasFront (before ++ line ∷ []) text → (error : RunError)
       → IsWrong before line error → HasTroubleAt (length before + 1) error
   at_line before line front error wrong =

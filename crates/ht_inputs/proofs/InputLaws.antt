@@ -113,6 +113,7 @@ denied_texts start texts basis stated named says AreSo denied so =
     (subst (λ (l : List ℕ). AreSo basis.circuit l values) (sym list)
     (subst (λ (s : List Tern). AreSo basis.circuit basis.representatives s) (sym from) so)))
 
+-- texts of which a job refuses one at a port don't all say a basis up to that port
 pub say_none : (job : Asked) (texts : InPort → List ℕ) (port : InPort) (name : List ℕ) (status : ℕ) (basis : JobBasis)
     → IsStated job basis → input_name job port ≡ Some name → AreRefusedWith job texts port status
     → ¬ SayTo job basis (order_of job port + 1) texts
@@ -278,6 +279,7 @@ module _ (texts : InPort → List ℕ) (basis : JobBasis) where
     none = refl;
   }
 
+  -- if a text is refused for an error, the job refuses one of its texts with the status of that error
   pub refused_with : (job : Asked) (e : RunError) (at : InPort) (name : List ℕ) → IsStated job basis
       → ((line : ℕ) → e ≡ BadTests line → HasFault job basis.circuit) → refused_port job e ≡ Some at
       → ((p : InPort) → refused_port job e ≡ Some p → IsRefusedFor job basis e (texts p)
@@ -401,6 +403,7 @@ module _ (texts : InPort → List ℕ) where
     | inr good ↦ absurd (x.1 good.0 good.1)
   ]
 
+  -- whichever texts a job refuses, it refuses them with one status
   pub one_status : (job : Asked) (p q : InPort) (m n : List ℕ) (s t : ℕ) → input_name job p ≡ Some m
       → input_name job q ≡ Some n → AreRefusedWith job texts p s → AreRefusedWith job texts q t → s ≡ t
   one_status job Netlist q m n s t a b x y = of_netlist job q s t x y

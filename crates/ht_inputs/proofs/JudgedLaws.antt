@@ -37,11 +37,13 @@ get_or-front xs ys k lt = grind (arith, common_steps)
 pub take_front : (xs ys lines : List (List ℕ)) (k : ℕ) → lines ≡ xs ++ ys → k ≤ length xs → take k lines ≡ take k xs
 take_front xs ys lines k is within = ap (take k) is ∙ take-append-le k xs ys within
 
+-- a line of a text within its first lines is the one of the same index among these
 pub get_front : (xs ys lines : List (List ℕ)) (k : ℕ) → lines ≡ xs ++ ys → k < length xs
     → get_or lines k [] ≡ get_or xs k []
 get_front xs ys lines k is inside = ap (λ l. get_or l k []) is ∙ get_or-front xs ys k inside
 
 module _ (IsWrong : List (List ℕ) → List ℕ → RunError → Type 0) where
+  -- after fine lines, one that ends the run with no error leaves all of them fine
   pub one_more_fine : (lines : List (List ℕ)) (line : List ℕ) → AreFine IsWrong lines
       → ((error : RunError) → ¬ IsWrong lines line error) → AreFine IsWrong (lines ++ line ∷ [])
   one_more_fine lines line fine is k error lt wrong = elim (cases_lt k (length lines)) [
@@ -125,6 +127,7 @@ whole_front lines text has = record {
 module _ (Stands : List (List ℕ) → Type 0) (IsWrong : List (List ℕ) → List ℕ → RunError → Type 0) {port : InPort}
     {name : List ℕ} {first : DeskView}
   where
+    -- before the first line is read, a judge that stands for no lines has taken all that were read
     pub takes_start : {now : DeskView} {reader : LinesView} → reader.lines_read ≡ 0 → reader.bytes_read ≡ 0 → Stands []
         → ((text : List ℕ) → IsInput port name text first → rest_of reader now ≡ Some text)
         → Takes Stands IsWrong port name first now reader
@@ -153,6 +156,7 @@ module _ {Stands : List (List ℕ) → Type 0} {IsWrong : List (List ℕ) → Li
           subst (λ n. LinesSoFar text n (t.lines ++ line ∷ []) after.0) (sym gives.bytes_read) after.3,
         )
 
+    -- a judge that takes the next line, with which nothing is wrong, has taken all lines up to it
     pub takes_more : (After : List (List ℕ) → Type 0) → After (t.lines ++ line ∷ [])
         → ((error : RunError) → ¬ IsWrong t.lines line error) → Takes After IsWrong port name first b new
     takes_more After stands is = record {
@@ -232,6 +236,7 @@ takes_enough {old = old} most t below fits all there = record {
   whole = λ fewer. absurd (omega (arith, fewer, t.counted, all));
 }
 
+-- if the line after those that a judge took is too long, the file stops at it
 pub stops_at_long : {Stands : List (List ℕ) → Type 0} {IsWrong : List (List ℕ) → List ℕ → RunError → Type 0}
     {port : InPort} {name : List ℕ} {first a : DeskView} {old : LinesView} (longest : ℕ) {most : ℕ} (line : ℕ)
     → Takes Stands IsWrong port name first a old → MayHold first name → line ≡ old.lines_read + 1

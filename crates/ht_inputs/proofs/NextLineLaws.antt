@@ -29,6 +29,7 @@ pub record IsNextLong (most : ℕ) (text : List ℕ) (lines : List (List ℕ)) :
   pub next : IsNextLine text lines line
   pub long : (most < length line) ⊎ IsTooLong text (length lines + 1)
 
+-- if what is left of a text begins with too long a line, the text's next line is too long
 pub next_is_long : (most : ℕ) (text : List ℕ) (passed : ℕ) (lines : List (List ℕ)) (rest : List ℕ)
     → LinesSoFar text passed lines rest → passed ≤ max_text_bytes → IsTooLongLine most passed rest
     → IsNextLong most text lines

@@ -87,6 +87,7 @@ judged_by false old new line result judged followed = judged
 judged_by true old new line result judged followed = followed
 
 module _ (v : ProofJudgeView) (basis : JobBasis) where
+  -- if the judge stands for proofs up to a line, that line ends the run with no error
   pub judged_is_fine : (before : List (List ℕ)) (line : List ℕ) → StandsForProofs v basis (before ++ line ∷ [])
       → (error : RunError) → ¬ IsWrongInProofs basis before line error
   judged_is_fine before line h (Denied (Proofs number)) wrong =
@@ -98,6 +99,7 @@ module _ (v : ProofJudgeView) (basis : JobBasis) where
       (none_wrong basis.follows v (before_proofs basis.content) before line number h.judges) wrong
   judged_is_fine before line h error wrong = wrong
 
+  -- if the judge denies a line of proofs, memory ran out or the line ends the run with that error
   pub denied_is_wrong : (before : List (List ℕ)) (line : List ℕ) → StandsForProofs v basis before → (e : JudgeError)
       → ProofLineDeniedFor (IsTroubleBy basis.follows v.circuit v.representatives (before_proofs basis.content)) before
       line e
@@ -123,6 +125,7 @@ first_is_head line lines (after_last One closed) is = ap (λ l. length (get_or l
 first_is_head line lines (after_last Two closed) is = ap (λ l. length (get_or l 0 [])) is
 first_is_head line lines (after_last Three closed) is = ap (λ l. length (get_or l 0 [])) is
 
+-- lines that proofs begin with are fewer than the bytes that a text may have
 pub fewer_lines : (lines : List (List ℕ)) (at : ProofReading) → ProofReadsTo lines at
     → length (get_or lines 0 []) + length lines ≤ max_text_bytes + 1 → length lines < max_text_bytes
 fewer_lines [] at read few = omega arith
@@ -175,6 +178,7 @@ module _ (basis : JobBasis) (text : List ℕ) where
     first = first_after (IsWrongInProofs basis) text before fine front IsTrouble parts number is (inl wrong);
   }
 
+  -- a malformed line after fine ones is the first malformed line of the proofs
   pub first_refused : (before : List (List ℕ)) (line : List ℕ) (number : ℕ) → AreFine (IsWrongInProofs basis) before
       → HasFront (before ++ line ∷ []) text → IsWrongInProofs basis before line (Denied (Proofs number))
       → IsFirstProofLine (IsTroubleIn basis) text number
@@ -183,6 +187,7 @@ module _ (basis : JobBasis) (text : List ℕ) where
       first_malformed before number fine (shorter before line text front) wrong.0
       (malformed_line before line there.0 there.1 wrong.1)
 
+  -- a line that is too long for proofs, after fine ones, is their first malformed line
   pub first_long : (before : List (List ℕ)) (number : ℕ) → AreFine (IsWrongInProofs basis) before
       → number ≡ length before + 1 → HasLongLine MAX_PROOF_LINE_BYTES before text
       → IsFirstProofLine (IsTroubleIn basis) text number
@@ -217,6 +222,7 @@ module _ (basis : JobBasis) (text : List ℕ) where
   well_formed before line front is (inr (inr long)) =
       front.short (length before + 1) (omega (arith, length-append before (line ∷ []))) long
 
+  -- a fault whose entry is found wrong with a line after fine ones is the first such fault
   pub first_fault : (before : List (List ℕ)) (line : List ℕ) (number : ℕ) → AreFine (IsWrongInProofs basis) before
       → HasFront (before ++ line ∷ []) text → IsTroubleIn basis before line number
       → IsFirstFault (IsTroubleIn basis) text number
@@ -236,6 +242,7 @@ module _ (basis : JobBasis) (text : List ℕ) where
 -- ---- why reading proofs ends the run
 
 module _ (name : List ℕ) (basis : JobBasis) (a b : DeskView) where
+  -- what stops the lines of proofs is why reading the file ends the run
   pub proofs_stop : {most : ℕ} {e : RunError} → LinesStop (IsWrongInProofs basis) (λ line. Denied (Proofs line))
       MAX_PROOF_LINE_BYTES most in_port.Proofs name a b e → ProofsStop basis name a b e
   proofs_stop {most = most} stops = lines_stop (ProofsStop basis name a b) (λ s. s) tt at_line (λ line s.
@@ -295,6 +302,7 @@ entries_are_read c representatives content lines format name a justified are lin
   }) file;
 }
 
+-- complete proofs of what is said, which agrees with the tests, are read, with some entries
 pub claimed_are_read : (c : Netlist) (representatives : List ℕ) (content : Content) (lines : List (List ℕ))
     (name : List ℕ) (a : DeskView) → AgreeWithTests c representatives content
     → AreCompleteProofs c representatives (before_proofs content) lines → WasRead in_port.Proofs name (HasLines lines) a
@@ -308,6 +316,7 @@ claimed_are_read c representatives content lines name a agrees is file =
           (record { agrees = agrees; backed = backed; complete = is.complete }) is.are is.lines_are file,
     )
 
+-- proofs that justify the claims of a judge that followed them are read, with these verdicts
 pub followed_are_read : (c : Netlist) (representatives : List ℕ) (content : Content) (claims : Claims)
     (lines : List (List ℕ)) (name : List ℕ) (a : DeskView) → claims.budget ≡ content.budget
     → AreJustifyingProofs c representatives (record (before_proofs content) { saids = claims.saids.items }) lines

@@ -94,6 +94,7 @@ read_before {port = port} {name = name} x read = record {
   });
 }
 
+-- if what a text says means something more, a file that was read as the first was read as that too
 pub read_so : {port : InPort} {name : List ℕ} {P : List ℕ → Type 0} (Q : List ℕ → Type 0) {a : DeskView}
     → ((text : List ℕ) → P text → Q text) → WasRead port name P a → WasRead port name Q a
 read_so Q so read = record { there = read.there; told = λ text is. so text (read.told text is) }
@@ -110,6 +111,7 @@ known_holds (Some (Some bytes)) known there = (bytes, refl)
 
 -- ---- one file more
 
+-- before the first file a job has read none
 pub nothing_read : (job : Asked) (basis : JobBasis) (a : DeskView) → IsStated job basis
     → ((name : List ℕ) → IsTrue a.steady → IsSome (a.file name)) → HasReadTo job basis 0 a a
 nothing_read job basis a stated tells = record {
@@ -157,6 +159,7 @@ module _ {job : Asked} {basis : JobBasis} {place : ℕ} {a m : DeskView} (h : Ha
       | inr ne ↦ unread_then (h.others p none) (unread_by call p ne)
     ]
 
+    -- a file that says its part of the basis is the next that the job has read
     pub one_more : HasNetlist basis.circuit → WasRead port name (SaysBasis job basis port) m
         → HasReadTo job basis (place + 1) a b
     one_more netlist read = record {
@@ -216,6 +219,7 @@ module _ {job : Asked} {basis : JobBasis} {place : ℕ} {a m : DeskView} (h : Ha
     stops_reading fault (NoSuchFault faults) stops = let none : None ≡ Some port = stops.0 in cc
     stops_reading fault e stops = refuses e stops
 
+    -- if reading the next file in the order ends the run, the reading of the job ends for that cause
     pub stops_there : (port ≡ Tests → HasFault job basis.circuit) → (e : RunError) → ReadStops job basis port name m b e
         → EndsReading job a b e
     stops_there fault e stops = record {
@@ -226,6 +230,7 @@ module _ {job : Asked} {basis : JobBasis} {place : ℕ} {a m : DeskView} (h : Ha
 
   -- ---- all files
 
+  -- reading may end for want of memory after any files that were read
   pub no_room : EndsReading job a m NoMemory
   no_room = record { reads = h.reads; others = h.others; cause = tt }
 
@@ -245,6 +250,7 @@ module _ {job : Asked} {basis : JobBasis} {place : ℕ} {a m : DeskView} (h : Ha
     };
   }
 
+  -- a job that has read all files in its order accepts its inputs
   pub accepts_all : ((p : InPort) → place ≤ order_of job p → input_name job p ≡ None) → HasNetlist basis.circuit
       → AcceptsInputs job basis a
   accepts_all rest netlist = record {
@@ -258,6 +264,7 @@ module _ {job : Asked} {basis : JobBasis} {place : ℕ} {a m : DeskView} (h : Ha
 
 -- ---- what files are first read for
 
+-- the empty netlist: no inputs, flip-flops, gates, outputs or names
 pub no_circuit : net.Netlist
 no_circuit = record { inputs = 0; dffs = []; gates = []; outputs = []; names = [] }
 

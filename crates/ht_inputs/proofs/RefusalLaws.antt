@@ -51,6 +51,7 @@ module _ (job : Asked) (status : ℕ) (a : DeskView) (refused : HasRefusedInputs
         one_status refused.texts job port refused.port _ _ _ _ reads refused.reads also refused.refused
   ]
 
+  -- on inputs that are refused, reading ends with their status, 4 (read fault) or 6 (no memory)
   pub stops_refused : (b : DeskView) (e : RunError) → StopsReading job a b e
       → (exit_status e ≡ status) ⊎ (exit_status e ≡ 4) ⊎ (exit_status e ≡ 6)
   stops_refused b Usage h = absurd h
@@ -84,6 +85,7 @@ stops_good job a b e h are none = absurd (good_refused job a b e h (λ line is. 
 
 -- ---- a steady desk
 
+-- on a steady desk that holds the inputs, reading ends by no fault of reading (4) or writing (5)
 pub stops_steady : (job : Asked) (a b : DeskView) (e : RunError) → StopsReading job a b e → IsTrue a.steady
     → HoldsInputs job a → (exit_status e ≢ 4) × (exit_status e ≢ 5)
 stops_steady job a b Usage h steady holds = absurd h

@@ -67,6 +67,7 @@ contradicts_nothing v start list lines is j wrong = wrong.contradicts
     (one_reading v.circuit v.representatives lines j.at wrong.at is j.read wrong.read) j.kept j.agree wrong.says)
 
 module _ (v : ReportJudgeView) (basis : JobBasis) where
+  -- if the judge stands for a report up to a line, that line ends the run with no error
   pub judged_is_fine : (before : List (List ℕ)) (line : List ℕ) → StandsForReport v basis (before ++ line ∷ [])
       → (error : RunError) → ¬ IsWrongInReport basis before line error
   judged_is_fine before line h (Denied (Report number)) (is, inl none) =
@@ -78,6 +79,7 @@ module _ (v : ReportJudgeView) (basis : JobBasis) where
       (subst IsCircuit (sym h.circuit) h.well_formed) h.judges) contradicts
   judged_is_fine before line h error wrong = wrong
 
+  -- if the judge denies a line of a report, memory ran out or the line ends the run with that error
   pub denied_is_wrong : (before : List (List ℕ)) (line : List ℕ) → StandsForReport v basis before → (e : JudgeError)
       → ReportLineDeniedFor v basis.content.start basis.content.list before line e
       → (judged_error_of e ≡ NoMemory) ⊎ IsWrongInReport basis before line (judged_error_of e)
@@ -146,6 +148,7 @@ module _ (basis : JobBasis) (text : List ℕ) (is : IsCircuit basis.circuit) whe
       inr (subst (ContradictsTests basis.circuit basis.representatives basis.content.start basis.content.list)
       (sym grown) wrong)
 
+  -- a line of a report that is denied after fine ones is its first trouble
   pub first_refused : (before : List (List ℕ)) (line : List ℕ) (number : ℕ) → AreFine (IsWrongInReport basis) before
       → HasFront (before ++ line ∷ []) text → IsWrongInReport basis before line (Denied (Report number))
       → IsFirst IsTrouble number
@@ -154,6 +157,7 @@ module _ (basis : JobBasis) (text : List ℕ) (is : IsCircuit basis.circuit) whe
       first_after (IsWrongInReport basis) text before fine (shorter before line text front) IsTrouble parts number
       wrong.0 (refused_line before line there.0 there.1 wrong.1)
 
+  -- a line that is too long for a report, after fine ones, is its first trouble
   pub first_long : (before : List (List ℕ)) (number : ℕ) → AreClasses basis.circuit basis.representatives
       → HasShortNames basis.circuit → AreFine (IsWrongInReport basis) before → number ≡ length before + 1
       → HasLongLine MAX_LINE_BYTES before text → IsFirst IsTrouble number
@@ -195,6 +199,7 @@ module _ (netlist tests report proofs : List ℕ) (start : Option (List ℕ)) (n
         → WasRead in_port.Report name IsSo a → Stops (Denied (Report number))
     refuses number IsSo so read = (refl, read_so _ so read)
 
+    -- what stops the lines of a report is why reading the file ends the run
     pub report_stops : {most : ℕ} {e : RunError} → AreClasses basis.circuit basis.representatives
         → HasShortNames basis.circuit → LinesStop (IsWrongInReport basis) (λ line. Denied (Report line)) MAX_LINE_BYTES
         most in_port.Report name a b e → Stops e
@@ -221,6 +226,7 @@ module _ (netlist tests report proofs : List ℕ) (start : Option (List ℕ)) (n
 
 -- ---- a report that is whole
 
+-- a report that the judge took to its end, true of the tests, is read, with its budget and verdicts
 pub report_is_read : (v : ReportJudgeView) (basis : JobBasis) (name : List ℕ) (a : DeskView)
     → (read : StandsForFile (StandsForReport v basis) (IsWrongInReport basis) (2 ^ 64 - 1) in_port.Report name a) (budget : ℕ)
     (saids : List Said) → basis.content.budget ≡ budget → basis.content.saids ≡ saids

@@ -38,12 +38,14 @@ module _ (basis : JobBasis) (text : List ℕ) (before : List (List ℕ)) (fine :
         vector_parts (length before + 1) refl wrong in
         record { wrong = first.wrong; first = first.first }
 
+    -- after fine lines, one that is no vector's is the first malformed one
     pub bad_vector : (line : List ℕ) (error : RunError) → HasFront (before ++ line ∷ []) text
         → IsNoVectorLine basis before line error → IsMalformedTest basis.circuit text (length before + 1)
     bad_vector line error front wrong =
         let at = at_line (IsNoVectorLine basis) text before line front error wrong in
         malformed (shorter before line text front) (inl (record { counted = at.counted; none = at.wrong.1 }))
 
+    -- after fine lines, one that is too long for a vector is the first malformed one
     pub long_vector : basis.circuit.inputs ≤ max_inputs → HasLongLine max_inputs before text
         → IsMalformedTest basis.circuit text (length before + 1)
     long_vector few long = malformed long.front (elim long.long [
@@ -57,6 +59,7 @@ module _ (basis : JobBasis) (text : List ℕ) (before : List (List ℕ)) (fine :
       | inr late ↦ inr late
     ])
 
+-- what stops the lines of tests is why reading the first vectors ends the run
 pub tests_stop_at : (basis : JobBasis) {most : ℕ} {name : List ℕ} {a b : DeskView} {e : RunError}
     → basis.circuit.inputs ≤ max_inputs
     → LinesStop (IsNoVectorLine basis) BadTests max_inputs most in_port.Tests name a b e
@@ -87,6 +90,7 @@ rows_front code rows lines text are front =
       count,
     )
 
+-- vectors that stand for the lines read of the tests are the file's first ones, and all if there are fewer
 pub tests_are_read : (basis : JobBasis) (v : Rows) {IsWrong : List (List ℕ) → List ℕ → RunError → Type 0} {most : ℕ}
     {name : List ℕ} {a : DeskView}
     → StandsForFile (StandsForTests v basis) IsWrong most in_port.Tests name a
@@ -159,6 +163,7 @@ module _ (basis : JobBasis) (text : List ℕ) (before : List (List ℕ)) (fine :
       wrong in
       record { wrong = first.wrong; first = first.first }
 
+  -- after fine lines, one that is no row's or has no vector is the first malformed one
   pub bad_row : (line : List ℕ) (error : RunError) → HasFront (before ++ line ∷ []) text
       → IsNoRowLine basis before line error → IsBadAt (length before + 1)
   bad_row line error front wrong =
@@ -176,6 +181,7 @@ module _ (basis : JobBasis) (text : List ℕ) (before : List (List ℕ)) (fine :
         ];
       }))
 
+  -- after fine lines, one that is too long for a row is the first malformed one
   pub long_row : length basis.circuit.outputs ≤ max_nets → HasLongLine max_nets before text
       → IsBadAt (length before + 1)
   long_row few long = bad_at long.front (elim long.long [
@@ -189,6 +195,7 @@ module _ (basis : JobBasis) (text : List ℕ) (before : List (List ℕ)) (fine :
     | inr late ↦ inr (inr late)
   ])
 
+  -- if fine lines end before there is a row for each vector, the line after them is the first malformed one
   pub missing_row : HasLines before text → length before < length basis.content.list → IsBadAt (length before + 1)
   missing_row has fewer = bad_at (whole_front before text has) (inr (inl (record {
     missing = omega (arith, ap length has.lines_are);
@@ -199,6 +206,7 @@ module _ (netlist tests responses out name : List ℕ) (basis : JobBasis) (a b :
   abbrev Stops : RunError → Type 0
   Stops = ReadStops (diagnose netlist tests responses out) basis in_port.Extra name a b
 
+  -- what stops the lines of responses is why reading the file ends the run of `diagnose`
   pub responses_stop : {most : ℕ} {e : RunError} → length basis.circuit.outputs ≤ max_nets
       → LinesStop (IsNoRowLine basis) BadResponses max_nets most in_port.Extra name a b e → Stops e
   responses_stop few stops = lines_stop Stops (λ fault. fault) tt
@@ -221,9 +229,11 @@ module _ (netlist tests responses out name : List ℕ) (basis : JobBasis) (a b :
 abbrev pub basis_for : ℕ → ℕ → JobBasis
 basis_for width vectors = basis_of (record no_circuit { outputs = replicate width no_net }) (replicate vectors []) []
 
+-- the basis for n values in each row has n outputs
 pub width_is : (width vectors : ℕ) → width ≡ length (basis_for width vectors).circuit.outputs
 width_is width vectors = sym (length-replicate width no_net)
 
+-- the basis for n vectors has n vectors
 pub vectors_are : (width vectors : ℕ) → vectors ≡ length (basis_for width vectors).content.list
 vectors_are width vectors = sym (length-replicate {A = List Bool} vectors [])
 

@@ -109,6 +109,7 @@ module _ (basis : JobBasis) (text : List ℕ) (before : List (List ℕ)) (fine :
     | inr first ↦ inl (omega (arith, first), none (omega (arith, first)))
   ]
 
+  -- after fine lines, one that is no start's, or that comes second, is the first malformed one
   pub bad_start : (line : List ℕ) (error : RunError) → HasFront (before ++ line ∷ []) text
       → IsNoStartLine basis before line error → IsBadAt (length before + 1)
   bad_start line error front wrong =
@@ -116,6 +117,7 @@ module _ (basis : JobBasis) (text : List ℕ) (before : List (List ℕ)) (fine :
       let some = wrong.1 start (subst (λ (l : List ℕ). IsFirstLine l start) (first_is before line text front first) is) in
       omega (arith, some, first))
 
+  -- after fine lines, one that is too long for a start is the first malformed one
   pub long_start : length basis.circuit.dffs ≤ max_dffs → HasLongLine max_dffs before text → IsBadAt (length before + 1)
   long_start fits long = bad_at long.front long.there (λ first.
       other_length_no_start (length basis.circuit.dffs) (line_at text 1) (λ same. elim long.long [
@@ -177,6 +179,7 @@ pub line_of : (basis : JobBasis) (lines : List (List ℕ)) (start : Option (Vec 
     → IsStartLine (length basis.circuit.dffs) (get_or lines 0 []) values.items
 line_of basis lines start values stands is = rw is at stands.line
 
+-- if a reader that stands for lines has no start, their first line is that of none
 pub none_of : (basis : JobBasis) (lines : List (List ℕ)) (start : Option (Vec Tern Global))
     → StandsForStart start basis lines → start ≡ None
     → (values : List Tern) → ¬ IsStartLine (length basis.circuit.dffs) (get_or lines 0 []) values
@@ -199,6 +202,7 @@ at_one job may = ap (place_of Extra) may
 module _ {job : Asked} {basis : JobBasis} {first old new : DeskView} (may : may_state_start job ≡ true) {name : List ℕ}
     (reads : input_name job Extra ≡ Some name) (before : HasReadTo job basis 1 first old) (call : InCall Extra old new)
   where
+    -- a start that is read after the netlist is the next file that the job has read
     pub start_step : (width : ℕ) → length basis.circuit.dffs ≡ width → (result : Result (Vec Tern Global) RunError)
         → IfOk result (λ start. WasRead Extra name (λ text. IsStartText width text start.items) old)
         → IfOk result (λ start. basis.content.start ≡ start.items → HasReadTo job basis 2 first new)
@@ -209,6 +213,7 @@ module _ {job : Asked} {basis : JobBasis} {first old new : DeskView} (may : may_
         (subst (λ (s : List Tern). IsStartText width text s) (sym same) is))) read)
     start_step width of_width (Err e) read = tt
 
+    -- an error in reading the start after the netlist ends the reading of the job
     pub step_stops : (result : Result (Vec Tern Global) RunError) → IfErr result (ReadStops job basis Extra name old new)
         → IfErr result (EndsReading job first new)
     step_stops (Ok start) stops = tt

@@ -37,12 +37,14 @@ module _ (c : Netlist) where
         subst (IsClosingRound c budget initial)
         (sym (append_assoc before (clause_kept k walk) (clauses_kept rest walks))) (lead (walk ∷ walks) (answer, h))
 
+    -- where no clause is left to search, the clauses done are what the round makes of the first ones
     pub lead_end : (before : List Clause) → LeadsToRound c budget initial before []
         → IsClosingRound c budget initial before
     lead_end before lead = subst (IsClosingRound c budget initial) (append-nil before) (lead [] tt)
 
 module _ (c : Netlist) (budget : ℕ) (initial clauses : List Clause) (i : ℕ)
     (way : IsUnderWay c budget initial clauses i) where
+  -- where all clauses of a round are done, they are what it makes of the first ones
   pub round_ends : length clauses ≤ i → IsClosingRound c budget initial clauses
   round_ends all =
       lead_end c budget initial clauses
@@ -124,6 +126,7 @@ abbrev pub RoundsLead : Netlist → ℕ → List Clause → List Clause → Type
 RoundsLead c budget initial clauses = (n : ℕ) (kept : List Clause) → AreClosingRounds c budget n clauses kept
     → (m : ℕ) × AreClosingRounds c budget m initial kept
 
+-- after a round that drops a clause, what the rounds come to is still what they come to from the first clauses
 pub rounds_go_on : (c : Netlist) (budget : ℕ) (initial clauses next : List Clause) → RoundsLead c budget initial clauses
     → IsClosingRound c budget clauses next → length next < length clauses → RoundsLead c budget initial next
 rounds_go_on c budget initial clauses next lead round fewer n kept h = lead (suc n) kept (next, (round, fewer, h))

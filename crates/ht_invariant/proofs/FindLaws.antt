@@ -32,6 +32,7 @@ module _ (c : Netlist) where
   known_clause : (k : Clause) → IsClause c k → knows c (literals_of k) ≡ true
   known_clause k h = and_from _ _ (lt-ltb _ _ h.first) (known_second k.first.dff k.second h.second)
 
+  -- clauses of a circuit speak of its flip-flops only
   pub each_known : (clauses : List Clause) → All (IsClause c) clauses → knows_each c clauses ≡ true
   each_known [] h = refl
   each_known (k ∷ clauses) h =
@@ -106,6 +107,7 @@ module _ (c : Netlist) where
         subst (λ (ls : List (List Literal)). All (ClosedIn ls) kept) same
         (subst (All (ClosedIn (literals_of_each clauses))) (sym h.stay) last.1)
 
+    -- the clauses that the rounds keep are met by the state, no more than before, and closed under each other
     pub rounds_hold : (state : List Bool) (n : ℕ) (clauses kept : List Clause)
         → AreClosingRounds c budget n clauses kept → All (IsMetClause c state) clauses
         → All (IsMetClause c state) kept × ((length kept ≤ length clauses) × All (IsClosedUnder c kept) kept)
@@ -196,6 +198,7 @@ module _ (c : Netlist) (state : List Bool) (held : IsState c state) where
       (both clauses (All-tail (IsClause c) k clauses h)
       (All-tail (λ k. is_met_by_each (tried_states c state) k ≡ true) k clauses p))
 
+  -- the candidates with which the rounds begin are clauses of the circuit, and the state meets them
   pub first_met : All (IsMetClause c state) (first_clauses c state)
   first_met =
       let test = is_met_by_each (tried_states c state) in
@@ -203,9 +206,11 @@ module _ (c : Netlist) (state : List Bool) (held : IsState c state) where
       (both (filter test (candidates_of state)) (All-filter test (IsClause c) (candidates_of state) all_clauses)
       (filter_passes test (candidates_of state)))
 
+  -- the candidates with which the rounds begin speak of the circuit's flip-flops only
   pub first_known : knows_each c (first_clauses c state) ≡ true
   first_known = each_known c (first_clauses c state) (met_clauses c state (first_clauses c state) first_met)
 
+  -- the clauses that the rounds leave of a state's candidates are an invariant, if there are any
   pub found_invariant : (budget : ℕ) (clauses : List Clause) → FindsClauses c budget state clauses
       → 0 < length clauses → IsInvariant c state clauses
   found_invariant budget clauses h some =

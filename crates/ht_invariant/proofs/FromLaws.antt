@@ -40,6 +40,7 @@ spends_exactly g budget tokens n h =
     omega (arith, within, full)
 
 module _ (c : Netlist) (fault : Fault) (clauses : List (List Literal)) where
+  -- the guide of a set under clauses depends on the members of the set only
   pub depends : DependsOnMembers (guide_from c fault clauses)
   depends z more same = guide_under_same c fault clauses z more same
 
@@ -77,11 +78,13 @@ module _ (c : Netlist) (fault : Fault) (clauses : List (List Literal)) where
         frame_tells_under [] chain h
 
     module _ (known : AreKnownClauses c clauses) (z : List ℕ) (members : FindsMembers c fault clauses budget z) where
+      -- the flip-flops of the set are in each set that seals the fault as long as the clauses are met
       pub members_lie : LieInEverySealIn c fault clauses z
       members_lie more seal j in_z =
           chain_lies_in_under c fault clauses members.chain more circuit known
           (chain_tells_under members.chain members.states.found) seal j (sym (members.same j) ∙ in_z)
 
+      -- a frame found at an output tells it under the clauses, so no set seals the fault as long as they are met
       pub output_is_told : (told : Told) → is_output told.place ≡ true
           → FindsFrame c fault (guide_from c fault clauses) budget z told → TellsOutputUnder c fault clauses z told
       output_is_told told output found =
@@ -98,6 +101,7 @@ module _ (c : Netlist) (fault : Fault) (clauses : List (List Literal)) where
                 (chain_tells_under (chain ++ told ∷ []) more) (ends_push chain told members.states.hidden ∙ output);
           }
 
+      -- a search of the set that spends the budget leaves an open walk of as many tokens as the budget has
       pub budget_is_spent : (tokens : List Token) → SpendsIn (guide_from c fault clauses) budget z tokens
           → SpendsUnder c fault clauses budget z tokens
       budget_is_spent tokens spends = record {
@@ -106,6 +110,7 @@ module _ (c : Netlist) (fault : Fault) (clauses : List (List Literal)) where
         exact = spends_exactly (guide_from c fault clauses z) budget tokens (node_at spends.0) spends.1;
       }
 
+  -- a budget that a search under clauses spends is less than a refutation costs
   pub spends_little : (budget : ℕ) (z : List ℕ) (tokens : List Token) → IsCircuit c → AreKnownClauses c clauses
       → SpendsIn (guide_from c fault clauses) budget z tokens → ¬ (refutation_cost c ≤ budget)
   spends_little budget z tokens circuit known spends large =

@@ -10,6 +10,7 @@ use Rattle.ht_tree.specs.Clauses.{AreKnown, AreKnownClauses, literals_of, litera
 use Rattle.ht_invariant.specs.Trials.{knows, knows_each}
 
 module _ (c : Netlist) where
+  -- literals that pass the test for a circuit speak of its flip-flops only
   pub known_all : (literals : List Literal) → knows c literals ≡ true → AreKnown c literals
   known_all [] h = All-nil (λ (l : Literal). l.dff < length c.dffs)
   known_all (l ∷ literals) h =
@@ -24,5 +25,6 @@ module _ (c : Netlist) where
       All-cons (λ (clause : Clause). AreKnown c (literals_of clause)) k clauses (known_all (literals_of k) p.0)
       (each_all clauses p.1)
 
+  -- clauses that pass the test for a circuit speak of its flip-flops only
   pub known_each : (clauses : List Clause) → knows_each c clauses ≡ true → AreKnownClauses c (literals_of_each clauses)
   known_each clauses h = All-map (AreKnown c) literals_of clauses (each_all clauses h)

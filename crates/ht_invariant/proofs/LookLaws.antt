@@ -26,6 +26,7 @@ module _ (w : SearchWindow) (path : List Assign3) (circuit : IsCircuit w.circuit
         (cell_at w path 0 (spot_net w.circuit (State l.dff))) (ltb-true _ _ opens);
   }
 
+  -- from the first literal's flip-flop whose next state is undetermined a walk back can begin
   pub found_walks : (literals : List Literal) → knows w.circuit literals ≡ true → (l : Literal)
       → find (λ (l : Literal). is_undetermined (set_at w path 0 (State l.dff))) literals ≡ Some l
       → (l.dff < length w.circuit.dffs) × CanWalk w path 0 (spot_net w.circuit (State l.dff))

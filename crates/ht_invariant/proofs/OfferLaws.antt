@@ -27,6 +27,7 @@ take_append {X} (suc n) (x ∷ xs) ys =
     ap (λ (zs : List X). x ∷ zs) (take_append n xs ys) ∙ ap (λ (k : ℕ). x ∷ take n xs ++ take k ys) (sym e)
 
 module _ (test : Clause → Bool) (kept : List Clause) where
+  -- clauses offered after others are kept as if all were offered at once
   pub offered_more : (xs ys : List Clause) → offered test (offered test kept xs) ys ≡ offered test kept (xs ++ ys)
   offered_more xs ys =
       let room = max_clauses - length kept in
@@ -54,6 +55,7 @@ flat_range_more f a n =
     ∙ ap (λ zs. flat_map f (range_with_len a n) ++ zs) (append-nil (f (a + n))))
 
 module _ (test : Clause → Bool) where
+  -- four clauses offered one after the other are kept as if all were offered at once
   pub offered_four : (k0 k1 k2 k3 k4 : List Clause) (x1 x2 x3 x4 y1 y2 y3 y4 : Clause)
       → k1 ≡ offered test k0 (x1 ∷ []) → k2 ≡ offered test k1 (x2 ∷ []) → k3 ≡ offered test k2 (x3 ∷ [])
       → k4 ≡ offered test k3 (x4 ∷ []) → x1 ≡ y1 → x2 ≡ y2 → x3 ≡ y3 → x4 ≡ y4

@@ -13,6 +13,7 @@ use Rattle.ht_serial.specs.MachineState.{MachineState}
 use Rattle.ht_serial.proofs.RunLaws.{run_state_more}
 use Rattle.ht_invariant.specs.FoundClauses.{state_after, tried_frames}
 
+-- 64 frames are tried
 pub frames_are : tried_frames ≡ 64
 unfolding tried_frames
 frames_are = refl
@@ -27,6 +28,7 @@ pub record AreTried (c : Netlist) (state : List Bool) (k : ℕ) (states : List (
   pub words_are : words ≡ generator_after c.inputs k 0
 
 module _ (c : Netlist) (state : List Bool) (held : length state ≡ length c.dffs) where
+  -- the next state after k frames, by the random vector that follows, is the state after k + 1 frames
   pub state_more : (k : ℕ) (vector : List Bool) → vector ≡ random_vector c.inputs (generator_after c.inputs k 0)
       → next_state c (bool_rules None) vector (state_after c state k) ≡ state_after c state (k + 1)
   state_more k vector is =
@@ -35,6 +37,7 @@ module _ (c : Netlist) (state : List Bool) (held : length state ≡ length c.dff
       (random_vector c.inputs (generator_after c.inputs k 0)))
       ∙ ap (λ (n : ℕ). state_after c state n) (let e : suc k ≡ k + 1 = omega arith in e))
 
+  -- a frame by the random vector that follows, with its state added, is one more frame tried
   pub tried_more : (k : ℕ) (states more : List (List Bool)) (machine next : MachineState Bool) (words after : Lcg)
       (vector row : List Bool) → AreTried c state k states machine words
       → vector ≡ random_vector c.inputs words → after ≡ after_words c.inputs words

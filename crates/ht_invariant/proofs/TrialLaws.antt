@@ -30,6 +30,7 @@ use Rattle.ht_invariant.specs.declared.sought.Sought.TheVariants.{Difference, Br
 use Rattle.ht_invariant.specs.Trials.{clause_window, knows_each, knows_sought, sought_of}
 use Rattle.ht_invariant.proofs.KnownLaws.{known_all, known_each}
 
+-- the start of a one-frame window is one from which a difference is looked for
 pub seeks_one : (s : Start) → is_one_frame s ≡ true → seeks_difference s ≡ true
 seeks_one (one_frame z) h = h
 seeks_one unknown h = cc
@@ -54,9 +55,11 @@ module _ (w : SearchWindow) (sought : Sought) (clauses : List Clause) (ds : List
   seeks : seeks_difference w.start ≡ true
   seeks = seeks_one w.start one
 
+  -- the status of the decisions under clauses is the status that the guide gives their node
   pub status_here : status_under cw ds ≡ (guide_under cw).judge.status here
   status_here = ap (status_under cw) (sym path)
 
+  -- the variable that is picked under clauses is the one that the guide picks at the node
   pub choice_here : pick_under cw ds ≡ (guide_under cw).choice here
   choice_here = ap (pick_under cw) (sym path)
 
@@ -64,10 +67,12 @@ module _ (w : SearchWindow) (sought : Sought) (clauses : List Clause) (ds : List
       → MayDecide (guide_of w).judge here var value
   same_may var value may = record { legal = may.legal; undecided = may.undecided }
 
+  -- a variable that may be decided at the node isn't decided yet
   pub undecided_here : (var : ℕ) (value : Tern) → MayDecide (guide_under cw).judge here var value
       → decides ds var ≡ false
   undecided_here var value may = trial.undecided_here w ds seeks var value (same_may var value may)
 
+  -- what may be decided at the node is a legal decision in the window
   pub legal_here : (var : ℕ) (value : Tern) → MayDecide (guide_under cw).judge here var value
       → IsLegalDecision w var value
   legal_here var value may = trial.legal_here w ds seeks var value (same_may var value may)
@@ -85,6 +90,7 @@ module _ (w : SearchWindow) (sought : Sought) (clauses : List Clause) (ds : List
     ap (λ (p : List Assign3). decides p var) path ∙ h.1,
   )
 
+  -- at an open node the token of the variable that is picked under clauses fits
   pub choice_fits : IsWindow w → knows_sought w.circuit sought ≡ true → knows_each w.circuit clauses ≡ true
       → (guide_under cw).judge.status here ≡ status3.Open → (chosen : Choice) → chosen ≡ pick_under cw ds
       → Fits (guide_under cw).judge here (deciding_token chosen)
@@ -108,6 +114,7 @@ left_sure false false status3.Dead h = h
 left_sure false false status3.Sure h = refl
 left_sure false false status3.Open h = h
 
+-- where a difference is sure under clauses, it is sure without them
 pub sure_under : (w : SearchWindow) (clauses : List Clause) (path : List Assign3)
     → status_under (clause_window w Difference clauses) path ≡ status3.Sure
     → without_place (status_at w path) ≡ status3.Sure

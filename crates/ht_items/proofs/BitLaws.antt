@@ -17,6 +17,7 @@ pub bit_here : (bits m : ℕ) (bit : Bool) → m < 64 → is_set (with_bit bits 
 bit_here bits m true below = ap (λ b. eqb b 1) (bit_at_set_same w64 bits m below)
 bit_here bits m false below = ap (λ b. eqb b 1) (bit_at_clear_same w64 bits m below)
 
+-- a bit that is written leaves the other bits of its word as they were
 pub bit_there : (bits m : ℕ) (bit : Bool) (k : ℕ) → m < 64 → k < 64 → k ≢ m
     → is_set (with_bit bits m bit) k ≡ is_set bits k
 bit_there bits m true k below small ne = ap (λ b. eqb b 1) (bit_at_set_other w64 bits m below k ne)
@@ -32,6 +33,7 @@ mark_below : (bound : ℕ) (words : List ℕ) (i : ℕ) → i < bound
 unfolding marks_of
 mark_below bound words i below = get_or-map-range_with_len (is_marked words) 0 bound i i false below (omega arith)
 
+-- where no number from the bound on is marked, the marks say of any number whether it is marked
 pub mark_at : (bound : ℕ) (words : List ℕ) → ((i : ℕ) → bound ≤ i → is_marked words i ≡ false) → (i : ℕ)
     → get_or (marks_of bound words) i false ≡ is_marked words i
 mark_at bound words past i = elim (cases_lt i bound) [
@@ -45,6 +47,7 @@ pub record HasBit (a : Inside) (i : ℕ) : Type 0 where
   pub below : i < a.bound
   pub inside : i / 64 < length a.words.items
 
+-- a number that the marks of a set cover is below its bound, and has its bit in one of its words
 pub bit_of : (a : Inside) → IsBitSet a → (marks : List Bool) → marks_of a.bound a.words.items ≡ marks → (i : ℕ)
     → i < length marks → HasBit a i
 bit_of a is marks view i within =
@@ -63,6 +66,7 @@ zeros_unmarked n i = ap (λ w. is_set w (i % 64)) (elim (cases_lt (i / 64) n) [
       in omega (arith, past, e))
 ]) ∙ ap (λ b. eqb b 1) (bit_at-zero (i % 64))
 
+-- words of zeros mark no number
 pub no_marks : (bound n : ℕ) → marks_of bound (replicate n 0) ≡ replicate bound false
 no_marks bound n =
     let a = marks_length bound (replicate n 0) in
@@ -82,6 +86,7 @@ word_written words i old new bit inside read is =
     ap (set words (i / 64))
     (is ∙ ap (λ (n : ℕ). with_bit n (i % 64) bit) (get_or_read words (i / 64) old inside read 0))
 
+-- a number has the mark that is written for it
 pub mark_here : (words : List ℕ) (i : ℕ) (bit : Bool) → i / 64 < length words
     → is_marked (written words i bit) i ≡ bit
 mark_here words i bit inside =
@@ -89,6 +94,7 @@ mark_here words i bit inside =
     inside)
     ∙ bit_here (get_or words (i / 64) 0) (i % 64) bit (omega arith)
 
+-- a mark that is written leaves the marks of other numbers as they were
 pub mark_there : (words : List ℕ) (i j : ℕ) (bit : Bool) → i / 64 < length words → j ≢ i
     → is_marked (written words i bit) j ≡ is_marked words j
 mark_there words i j bit inside ne = elim (cases_eq (j / 64) (i / 64)) [
@@ -103,6 +109,7 @@ mark_there words i j bit inside ne = elim (cases_eq (j / 64) (i / 64)) [
       (get_or-set_other words (i / 64) (j / 64) (with_bit (get_or words (i / 64) 0) (i % 64) bit) 0 apart)
 ]
 
+-- a mark that is written for a number sets the mark at its index
 pub mark_written : (bound : ℕ) (words : List ℕ) (i : ℕ) (bit : Bool) → i < bound → i / 64 < length words
     → marks_of bound (written words i bit) ≡ set (marks_of bound words) i bit
 mark_written bound words i bit below inside =
@@ -167,6 +174,7 @@ first_mark words w s rest small is some fits whole =
           ∙ ap (λ b. eqb b 1) (low.2 (q - (64 * w + s)) (omega (arith, from, below))));
     }
 
+-- where a word without its first s bits is 0, none of its numbers from bit s on is marked
 pub none_in_word : (words : List ℕ) (w s : ℕ) → get_or words w 0 / 2 ^ s ≡ 0 → (q : ℕ) → 64 * w + s ≤ q
     → q < 64 * w + 64 → is_marked words q ≡ false
 none_in_word words w s none q from below =
@@ -198,6 +206,7 @@ first_after words from middle i le none h = record {
   ];
 }
 
+-- where a word is 0, none of its numbers is marked
 pub zero_word : (words : List ℕ) (w : ℕ) → get_or words w 0 ≡ 0 → (q : ℕ) → 64 * w ≤ q → q < 64 * w + 64
     → is_marked words q ≡ false
 zero_word words w none q from below =
@@ -214,6 +223,7 @@ pub record ShowsFirstMark (marks : List Bool) (from i : ℕ) : Type 0 where
   pub marked : get_or marks i false ≡ true
   pub least : (q : ℕ) → from ≤ q → q < i → get_or marks q false ≡ false
 
+-- the first number that the words of a set mark is the first that its marks show
 pub first_seen : (a : Inside) → IsBitSet a → (marks : List Bool) → marks_of a.bound a.words.items ≡ marks
     → (from i : ℕ) → IsFirstMark a.words.items from i → ShowsFirstMark marks from i
 first_seen a is marks view from i h =

@@ -60,6 +60,7 @@ pub record IsRowMore {T : Type 0} (ends : List ℕ) (items more : List T) (ends'
     pub ends_are : ends' ≡ ends ++ end ∷ []
     pub items_are : items' ≡ items ++ more
 
+-- a row that is added becomes the last row, and the ends stay in order
 pub row_more : {T : Type 0} → (ends : List ℕ) (items more : List T) (ends' : List ℕ) (items' : List T)
     → IsRowMore ends items more ends' items' → AreEnds 0 ends items
     → AreEnds 0 ends' items' × (rows_from 0 ends' items' ≡ rows_from 0 ends items ++ more ∷ [])

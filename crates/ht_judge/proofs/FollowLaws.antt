@@ -194,6 +194,7 @@ module _ (a : Inside) (reader : ProofReaderView) (line : List ℕ) (ended : Opti
             (said_at a.claims.saids.items (e.number - 1)) (f.justified.agrees (e.number - 1) is.own) is.passes);
       }
 
+  -- if the entry that a line ends is denied, a judge that follows the proofs stops for that cause
   pub ended_stops_following : (error : JudgeError) → JudgesEnded (judging_with a saids) ended (Err error)
       → Stops FollowsProofs IsEvidenceTrouble a reader line saids error
   ended_stops_following = ended_denied FollowsProofs IsEvidenceTrouble a reader line saids ended
@@ -207,6 +208,7 @@ module _ (a : Inside) (reader : ProofReaderView) (line : List ℕ) (ended : Opti
     none_due : a.follows ≡ true → due ≡ 0
     none_due on = is_due ∙ ap (λ follows. due_by follows stand_is (length a.subject.classes.now)) on
 
+    -- no entry is due to a judge that follows the proofs, so a denial of a due one owes no cause
     pub due_stops_following : (error : JudgeError) → DeniesDue (judging_with a saids) due error
         → Stops FollowsProofs IsEvidenceTrouble a reader line saids error
     due_stops_following = due_denied FollowsProofs IsEvidenceTrouble a reader line saids due
@@ -237,6 +239,7 @@ module _ (a : Inside) (reader : ProofReaderView) (line : List ℕ) (ended : Opti
       (justified_on a.subject.circuit.now a.subject.classes.now content a.claims.saids.items saids e takes
       (closed_of f.at) (ended_above f.at new e readable ends) f.justified backing)
 
+  -- if the entry that a line ends, if any, is right, the judge follows the lines with this one
   pub line_followed : (u : Unit {0}) → JudgesEnded (judging_with a saids) ended (Ok u) → (begun : ℕ)
       → ProofJudged FollowsProofs IsEvidenceTrouble (judge_before a reader) (judge_with a saids begun true) line
       (Ok tt)
@@ -282,6 +285,7 @@ tests_justified c representatives content places first = record {
       (subst NeedsEntry (get_or-map said_of places i None) needs));
 }
 
+-- a new judge whose verdicts are the first detections of the vectors follows proofs of no lines
 pub follows_tests : (v : ProofJudgeView) (c : Netlist) (representatives : List ℕ) (content : Content)
     (start : List Tern) (places : List (Option Place)) → v.live ≡ true → v.follows ≡ true → v.circuit ≡ c
     → v.representatives ≡ representatives → content.start ≡ start → v.start ≡ start → content.budget ≡ v.budget
@@ -322,6 +326,7 @@ justifying_at c representatives content saids lines (after_last format closed) e
   justified = is;
 }
 
+-- whole proofs that a judge follows justify, with the vectors, the verdicts that it has by now
 pub whole_justify : (v : ProofJudgeView) (content : Content) (lines : List (List ℕ))
     → length v.saids ≡ length (faults_of v.circuit) → FollowsProofs v content lines
     → ((lines : List (List ℕ)) (at : ProofReading) → ProofStands v.reader lines at → AreProofLines lines)

@@ -34,6 +34,7 @@ backed_with c representatives content entries (e ∷ all) backed =
     (record { own = first.own; counted = first.counted; backs = first.backs })
     (backed_with c representatives content entries all (All-tail (IsBacking c representatives content) e all backed))
 
+-- tests, a report that is true of their vectors, and complete proofs for it are valid files
 pub judged_is_valid : (c : Netlist) (representatives tests report proofs : List ℕ) (content : Content)
     → IsTestText c tests content.list
     → IsTrueReport c representatives content.start content.list (lines_of report) content.budget content.saids
@@ -65,6 +66,7 @@ agreed_sayable c start list i Undetectable few agrees = tt
 agreed_sayable c start list i Aborted few agrees = tt
 agreed_sayable c start list i Undetected few agrees = tt
 
+-- tests and proofs that justify the verdicts are valid files with the report of these verdicts
 pub followed_is_valid : (c : Netlist) (representatives tests proofs : List ℕ) (content : Content) → IsCircuit c
     → AreClasses c representatives → HasPlainNames c → IsBudget content.budget → IsTestText c tests content.list
     → length content.list ≤ max_text_bytes

@@ -31,6 +31,7 @@ use Rattle.ht_judge.specs.declared.report_judge.ReportJudge.TheInside.{Inside}
 use Rattle.ht_judge.specs.ReportJudging.{AgreesWithPlace, AgreesWithPlaces, KeepsSaid, IsTrueReport, JudgesReport, ReportEndHasCause, ReportJudgeView, ReportJudged, budget_with, saids_in}
 use Rattle.ht_judge.specs.ReportJudgeOf.{HasLines, KeepsReport, report_judge_view}
 
+-- a new reader of a report stands for no lines
 pub starts : (c : Netlist) (representatives : List ℕ) → ReportStands (new_report c representatives) [] before_report
 starts c representatives = record {
   live = refl;
@@ -304,6 +305,7 @@ module _ (a : Inside) (r : ReportView) (line : List ℕ) (item : Item) (keeps : 
       let had = keeps.stands live in
       (had.0 ++ line ∷ [], read_on had.1 item, (called.taken had.0 had.1 had.2).stands)
 
+  -- if what a line says agrees with the first detections, the judge stands for the lines with it
   pub line_taken : (budget : ℕ) (saids : List Said) → AgreesWithPlaces a.detections.now item
       → budget ≡ budget_with item a.budget → saids ≡ a.saids.items ++ saids_in item
       → ReportJudged (report_judge_view a) (judge_with a r budget saids true) line (Ok tt)
@@ -334,6 +336,7 @@ module _ (a : Inside) (r : ReportView) (line : List ℕ) (item : Item) (keeps : 
     cause = λ start list before j. tt;
   }
 
+  -- if what a line says contradicts the first detections, the judge stops at the number of that line
   pub line_contradicts : (number : ℕ) (error : JudgeError) → error ≡ Denied (Report number)
       → ¬ AgreesWithPlaces a.detections.now item → number ≡ length a.saids.items + 2
       → Stops a r line error
@@ -375,12 +378,14 @@ module _ (a : Inside) (r : ReportView) (line : List ℕ) (item : Item) (keeps : 
   budget_by (Member k) at is says = keeps.budget
   budget_by Total at is says = keeps.budget
 
+  -- the budget that is kept after a line is one of a search
   pub has_budget : (budget : ℕ) → budget ≡ budget_with item a.budget → IsBudget budget
   has_budget budget is =
       let had = keeps.stands live in
       let next = called.taken had.0 had.1 had.2 in
       subst IsBudget (sym is) (budget_by item (read_on had.1 item) next.stands.read.readable next.says)
 
+-- if the reader finds a line malformed, the judge stops at the number of that line
 pub line_refused : (a : Inside) (r : ReportView) (line : List ℕ) (malformed : MalformedLine) (error : JudgeError)
     → error ≡ Denied (Report malformed.line) → KeepsReport a → IsTrue a.live
     → ReportCalled a.reader r line (Err malformed)
@@ -408,6 +413,7 @@ pub record ReadAndKept (c : Netlist) (representatives : List ℕ) (lines : List 
   pub read : ReportReadsTo c representatives lines at
   pub kept : KeepsSaid at budget saids
 
+-- a report that the judge has taken to its end is true of the vectors
 pub whole_is_true : (v : ReportJudgeView) (start : List Tern) (list : List (List Bool)) (lines : List (List ℕ))
     → (j : JudgesReport v start list lines)
     → (budget : ℕ) × (saids : List Said) × (j.at ≡ after_report budget saids)
@@ -434,12 +440,14 @@ module _ (a : Inside) (keeps : KeepsReport a) (start : List Tern) (list : List (
     sums = j.sums;
   }
 
+  -- if the reader ends the lines as a whole report, it is true of the vectors
   pub whole_ends : (u : Unit {0})
       → ((lines : List (List ℕ)) (at : ReportReading) → ReportStands a.reader lines at
       → EndsReport a.reader lines at (Ok u))
       → IsTrueReport a.reader.circuit a.reader.representatives start list lines a.budget a.saids.items
   whole_ends u ends = whole_is_true (report_judge_view a) start list lines j (ends lines j.at stands_at_end)
 
+  -- if the report ends too early, the judge denies the line after its last
   pub early_ends : (malformed : MalformedLine) (error : JudgeError) → error ≡ Denied (Report malformed.line)
       → ((lines : List (List ℕ)) (at : ReportReading) → ReportStands a.reader lines at
       → EndsReport a.reader lines at (Err malformed))

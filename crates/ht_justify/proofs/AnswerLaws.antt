@@ -29,6 +29,7 @@ module _ (c : Netlist) (cube : List Tern) (limit budget : ℕ) (held : length cu
   abbrev listed : Node → Rows
   listed node = record { width = c.inputs; list = back_list c node }
 
+  -- the answer that an outcome of the search comes to is one that the search leads to
   pub outcome_answers : (node : Node) (o : Outcome) → IsOutcome (guide_of w) budget 1 node o
       → IsBack c cube limit budget (answer_of (listed node) o)
   outcome_answers node (Found tokens) h = record {
@@ -38,6 +39,7 @@ module _ (c : Netlist) (cube : List Tern) (limit budget : ℕ) (held : length cu
   outcome_answers node (Closed tokens) h = h
   outcome_answers node (Spent tokens) h = (node, h)
 
+  -- the answer that an outcome of the search comes to means what it says
   pub outcome_holds : (node : Node) (o : Outcome) → IsOutcome (guide_of w) budget 1 node o
       → BackHolds c cube limit budget (answer_of (listed node) o)
   outcome_holds node (Found tokens) h =
@@ -51,6 +53,7 @@ module _ (c : Netlist) (cube : List Tern) (limit budget : ℕ) (held : length cu
 
 -- the answer of a search that began at the first window alone
 module _ (c : Netlist) (cube : List Tern) (limit budget : ℕ) (s : BackState) (o : Outcome) where
+  -- the answer of a search that began at the cube's own window is one that it leads to, and means what it says
   pub search_answers : length cube ≡ length c.dffs → is_wanting cube ≡ true → s.first ≡ back_window c cube limit
       → IsOutcome (guide_of (back_window c cube limit)) budget 1 (node_here s) o
       → (back : Back) → back ≡ answer_of (found_list s) o

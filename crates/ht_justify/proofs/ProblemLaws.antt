@@ -44,24 +44,30 @@ module _ (a : Inside) (s : BackState) (is : back_state a ≡ s) (stacked : IsSta
   path_is : path_of here ≡ path
   path_is = window_path s.above s.decisions ∙ ap (λ (s : BackState). s.decisions) (sym is)
 
+  -- the status of the deepest window is the status that the guide gives its node
   pub status_here : without_place (status_at deepest path) ≡ (guide_of s.first).judge.status here
   status_here = status_is s.first deepest here path stands_at path_is
 
+  -- the variable that is picked in the deepest window is the one that the guide picks at its node
   pub choice_here : pick_of deepest path ≡ (guide_of s.first).choice here
   choice_here = choice_is s.first deepest here path stands_at path_is
 
+  -- at an open node the token of a legal choice in the deepest window fits
   pub choice_fits_here : (chosen : Choice) → (guide_of s.first).judge.status here ≡ status3.Open
       → IsLegalChoice deepest path chosen → Fits (guide_of s.first).judge here (deciding_token chosen)
   choice_fits_here = choice_fits s.first deepest here path stands_at path_is
 
+  -- a variable that may be decided at the node isn't decided in the deepest window
   pub undecided_here : (var : ℕ) (value : Tern) → MayDecide (guide_of s.first).judge here var value
       → decides path var ≡ false
   undecided_here = decision_undecided s.first deepest here path stands_at path_is
 
+  -- what may be decided at the node is a legal decision in the deepest window
   pub legal_here : (var : ℕ) (value : Tern) → MayDecide (guide_of s.first).judge here var value
       → IsLegalDecision deepest var value
   legal_here = decision_legal s.first deepest here path stands_at path_is
 
+  -- the deepest window is one of the circuit that is searched
   pub circuit_here : deepest.circuit ≡ a.circuit.now
   circuit_here = ap (λ (w : SearchWindow). w.circuit) stacked.under.0
 

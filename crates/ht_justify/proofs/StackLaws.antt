@@ -24,6 +24,7 @@ IsBackOf c w = (w.circuit ≡ c) × (w.frames ≡ 1)
 abbrev pub vectors_back : Netlist → List (List Assign3) → List (List Bool)
 vectors_back c each = map (λ decisions. vector_of c decisions 0) each
 
+-- the decisions of windows in reverse are the windows' decisions in reverse
 pub decisions_reverse : (states : List WindowState) → decisions_of (reverse states) ≡ reverse (decisions_of states)
 decisions_reverse [] = refl
 decisions_reverse (s ∷ states) =
@@ -32,6 +33,7 @@ decisions_reverse (s ∷ states) =
     ∙ (ap (λ (t : List (List Assign3)). t ++ s.decisions ∷ []) (decisions_reverse states)
     ∙ sym (reverse-append (s.decisions ∷ []) (decisions_of states))))
 
+-- one more window at the end adds its decisions at the end
 pub decisions_push : (states all : List WindowState) (s : WindowState) → all ≡ states ++ s ∷ []
     → decisions_of all ≡ decisions_of states ++ s.decisions ∷ []
 decisions_push states all s is = ap decisions_of is ∙ map-append _ states (s ∷ [])
@@ -80,6 +82,7 @@ module _ (c : Netlist) (cube : List Tern) (limit : ℕ) where
         vectors = list_under c n ∙ (λ k. vector_of c (own_path older ds k) 0 ∷ h.vectors k);
       }
 
+  -- the node of the decisions of all windows is in the deepest window, under those above it
   pub under_all : (above : List (List Assign3)) (ds : List Assign3)
       → IsUnder (reverse above) (node_of (steps_under above ds))
   under_all above ds =

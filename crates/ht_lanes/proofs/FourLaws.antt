@@ -27,6 +27,7 @@ at_four op inner a b c d i p q r s h =
     (length-zip2 inner c d (r ∙ sym s) ∙ r) h
     ∙ (λ j. op (at_both inner a b i p q h j) (at_both inner c d i r s h j))
 
+-- the rows of each of four words, exchanged, are those of its complement
 pub not_rows : (v : List Lanes) (a b : List ℕ) (i : ℕ) → i < 4 → AreFourRows v a b
     → AreBitsOf (lane_operations.complement (word_at v i)) b a i
 not_rows v a b i h p = rw (p.each i h) (not_apart _ _ (p.apart i h), not_lanes _ _ (p.apart i h))
@@ -46,14 +47,17 @@ rows_of_two op f g apart lanes v w a b c d i h p q =
     )
     (apart _ _ _ _ (p.apart i h) (q.apart i h), lanes _ _ _ _ (p.apart i h) (q.apart i h))
 
+-- OR of the zero rows and AND of the one rows give the rows of AND of each two words
 pub and_rows : (v w : List Lanes) (a b c d : List ℕ) (i : ℕ) → i < 4 → AreFourRows v a b → AreFourRows w c d
     → AreBitsOf (lane_operations.conjunction (word_at v i) (word_at w i)) (zip2 bit_or a c) (zip2 bit_and b d) i
 and_rows = rows_of_two lane_operations.conjunction bit_or bit_and and_apart and_lanes
 
+-- AND of the zero rows and OR of the one rows give the rows of OR of each two words
 pub or_rows : (v w : List Lanes) (a b c d : List ℕ) (i : ℕ) → i < 4 → AreFourRows v a b → AreFourRows w c d
     → AreBitsOf (lane_operations.disjunction (word_at v i) (word_at w i)) (zip2 bit_and a c) (zip2 bit_or b d) i
 or_rows = rows_of_two lane_operations.disjunction bit_and bit_or or_apart or_lanes
 
+-- the lanes where definite values are the same, and where they are opposite, are the rows of XOR of each two words
 pub xor_rows : (v w : List Lanes) (a b c d : List ℕ) (i : ℕ) → i < 4 → AreFourRows v a b → AreFourRows w c d
     → AreBitsOf (lane_operations.parity (word_at v i) (word_at w i))
     (zip2 bit_or (zip2 bit_and a c) (zip2 bit_and b d)) (zip2 bit_or (zip2 bit_and a d) (zip2 bit_and b c)) i

@@ -18,14 +18,17 @@ use Rattle.ht_lanes.specs.Rows.{AreApart, lane_value, lanes_of}
 use Rattle.ht_lanes.specs.Inverse.{apart_at, lane_is, lane_of_each}
 use Rattle.ht_lanes.proofs.OperationLaws.{told, lanes_same, apart_of, and_fits, set_and, not_apart}
 
+-- the word with all bits of the zero row and none of the one row has Zero in every lane
 pub splat_zero : lanes_of 18446744073709551615 0 ≡ every_lane Zero
 unfolding lanes_of
 splat_zero = refl
 
+-- the word with all bits of the one row and none of the zero row has One in every lane
 pub splat_one : lanes_of 0 18446744073709551615 ≡ every_lane One
 unfolding lanes_of
 splat_one = refl
 
+-- the word without a bit in either row is unknown in every lane
 pub splat_unknown : lanes_of 0 0 ≡ every_lane Unk
 unfolding lanes_of
 splat_unknown = refl
@@ -50,6 +53,7 @@ set_lane w a b c d k v h view here others =
 abbrev pub bit_of : ℕ → ℕ
 bit_of k = 1 * 2 ^ k % 2 ^ 64
 
+-- a lane's bit cleared in the zero row and set in the one row writes One in the lane
 pub written_one : (w : Lanes) (a b k : ℕ) → k < 64 → lanes_of a b ≡ w
     → lanes_of (bit_and a (bit_not w64 (bit_of k))) (bit_or b (bit_of k)) ≡ with_lane w k One
 written_one w a b k h view =
@@ -58,6 +62,7 @@ written_one w a b k h view =
     (λ n below other. (λ i. told (eqb (bit_at_clear_other w64 a k h n below other i) 1)
     (eqb (bit_at_set_other w64 b k h n other i) 1)))
 
+-- a lane's bit set in the zero row and cleared in the one row writes Zero in the lane
 pub written_zero : (w : Lanes) (a b k : ℕ) → k < 64 → lanes_of a b ≡ w
     → lanes_of (bit_or a (bit_of k)) (bit_and b (bit_not w64 (bit_of k))) ≡ with_lane w k Zero
 written_zero w a b k h view =
@@ -74,6 +79,7 @@ cleared false m y h = refl
 bit_fits : (k : ℕ) → bit_of k < 2 ^ 64
 bit_fits k = omega arith
 
+-- rows with One written in a lane still have no lane that is both Zero and One
 pub apart_one : (a b k : ℕ) → k < 64 → AreApart a b
     → AreApart (bit_and a (bit_not w64 (bit_of k))) (bit_or b (bit_of k))
 apart_one a b k h p =
@@ -85,11 +91,13 @@ apart_one a b k h p =
           ∙ cleared (is_set a n) (is_set (bit_not w64 (bit_of k)) n) (is_set b n) (apart_at a b n p.apart)
     ])
 
+-- rows with Zero written in a lane still have no lane that is both Zero and One
 pub apart_zero : (a b k : ℕ) → k < 64 → AreApart a b
     → AreApart (bit_or a (bit_of k)) (bit_and b (bit_not w64 (bit_of k)))
 apart_zero a b k h p = not_apart (bit_and b (bit_not w64 (bit_of k))) (bit_or a (bit_of k))
     (apart_one b a k h (not_apart a b p))
 
+-- a lane's bit cleared in both rows makes the lane unknown
 pub written_unknown : (w : Lanes) (a b k : ℕ) → k < 64 → lanes_of a b ≡ w
     → lanes_of (bit_and a (bit_not w64 (bit_of k))) (bit_and b (bit_not w64 (bit_of k))) ≡ with_lane w k Unk
 written_unknown w a b k h view =
@@ -104,6 +112,7 @@ less_apart true true false n h = refl
 less_apart true false y n h = refl
 less_apart false m y n h = refl
 
+-- rows that are masked with the same number still have no lane that is both Zero and One
 pub apart_unknown : (a b m : ℕ) → AreApart a b → AreApart (bit_and a m) (bit_and b m)
 apart_unknown a b m p =
     apart_of (bit_and a m) (bit_and b m) (and_fits a m p.zeros_fit) (and_fits b m p.ones_fit)
@@ -119,6 +128,7 @@ lane_preserved k h = record {
   parity = λ v w x y p q. lane_of_each (λ i. xor_of (lane v i) (lane w i)) k h ∙ (λ i. xor_of (p i) (q i));
 }
 
+-- where the words at a gate's pins have some values in a lane, the gate's word has there the gate's value of these
 pub gate_lane : (k : ℕ) → k < 64 → (kind : Kind) (args : List Lanes) (values : List Tern)
     → AllRelated (IsLane k) args values → IsLane k (gate_lanes kind args) (gate_value kind values)
 gate_lane k h = gate_related (IsLane k) lane_operations tern_operations (lane_preserved k h) (every_lane Unk) Unk
@@ -128,6 +138,7 @@ lanes_at : (k : ℕ) (args : List Lanes) → AllRelated (IsLane k) args (map (λ
 lanes_at k [] = tt
 lanes_at k (w ∷ args) = (refl, lanes_at k args)
 
+-- a lane of a gate's word is the gate's value of that lane of the words at its pins
 pub gate_at_lane : (k : ℕ) → k < 64 → (kind : Kind) (args : List Lanes)
     → lane (gate_lanes kind args) k ≡ gate_value kind (map (λ w. lane w k) args)
 gate_at_lane k h kind args = gate_lane k h kind args (map (λ w. lane w k) args) (lanes_at k args)

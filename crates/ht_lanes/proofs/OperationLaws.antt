@@ -29,9 +29,11 @@ max_test = by_bits (λ x y. eqb (max x y) 1 ≡ (eqb x 1 || eqb y 1)) refl refl 
 min_test : (x y : ℕ) → x < 2 → y < 2 → eqb (min x y) 1 ≡ (eqb x 1 && eqb y 1)
 min_test = by_bits (λ x y. eqb (min x y) 1 ≡ (eqb x 1 && eqb y 1)) refl refl refl refl
 
+-- a bit of the OR of two numbers is set where it is in one of them
 pub set_or : (a b k : ℕ) → is_set (bit_or a b) k ≡ (is_set a k || is_set b k)
 set_or a b k = ap (λ n. eqb n 1) (bit_at_or a b k) ∙ max_test _ _ (bit_at-lt a k) (bit_at-lt b k)
 
+-- a bit of the AND of two numbers is set where it is in both
 pub set_and : (a b k : ℕ) → is_set (bit_and a b) k ≡ (is_set a k && is_set b k)
 set_and a b k = ap (λ n. eqb n 1) (bit_at_and a b k) ∙ min_test _ _ (bit_at-lt a k) (bit_at-lt b k)
 
@@ -41,6 +43,7 @@ unset zero h k = refl
 unset (suc zero) h k = cc
 unset (suc (suc x)) h k = absurd (omega (arith, h))
 
+-- two numbers without a common bit have the AND 0
 pub apart_from : (a b : ℕ) → ((k : ℕ) → (is_set a k && is_set b k) ≡ false) → bit_and a b ≡ 0
 apart_from a b h = same_from_bits (bit_and a b) 0 (λ k. unset _ (bit_at-lt (bit_and a b) k) (set_and a b k ∙ h k)
     ∙ sym (bit_at-zero k))
@@ -106,6 +109,7 @@ lanes_two op z o a b c d h =
     lanes_same (lane_value z o) (λ k. op (lane (lanes_of a b) k) (lane (lanes_of c d) k))
     (λ k below. h k ∙ (λ i. op (sym (lane_is a b k below) i) (sym (lane_is c d k below) i)))
 
+-- OR of the zero rows and AND of the one rows are AND of two words, lane by lane
 pub and_lanes : (a b c d : ℕ) → AreApart a b → AreApart c d
     → lanes_of (bit_or a c) (bit_and b d) ≡ lane_operations.conjunction (lanes_of a b) (lanes_of c d)
 and_lanes a b c d p q =
@@ -113,6 +117,7 @@ and_lanes a b c d p q =
     (λ k. (λ i. told (set_or a c k i) (set_and b d k i))
     ∙ and_told (is_set a k) (is_set b k) (is_set c k) (is_set d k) (apart_at a b k p.apart) (apart_at c d k q.apart))
 
+-- AND of the zero rows and OR of the one rows are OR of two words, lane by lane
 pub or_lanes : (a b c d : ℕ) → AreApart a b → AreApart c d
     → lanes_of (bit_and a c) (bit_or b d) ≡ lane_operations.disjunction (lanes_of a b) (lanes_of c d)
 or_lanes a b c d p q =
@@ -124,6 +129,7 @@ set_two : (a b c d k : ℕ) → is_set (bit_or (bit_and a b) (bit_and c d)) k �
     ((is_set a k && is_set b k) || (is_set c k && is_set d k))
 set_two a b c d k = set_or (bit_and a b) (bit_and c d) k ∙ (λ i. set_and a b k i || set_and c d k i)
 
+-- the lanes where two words have the same definite value, and where opposite ones, are XOR, lane by lane
 pub xor_lanes : (a b c d : ℕ) → AreApart a b → AreApart c d
     → lanes_of (bit_or (bit_and a c) (bit_and b d)) (bit_or (bit_and a d) (bit_and b c)) ≡ lane_operations.parity
     (lanes_of a b) (lanes_of c d)
@@ -132,6 +138,7 @@ xor_lanes a b c d p q =
     (λ k. (λ i. told (set_two a c b d k i) (set_two a d b c k i))
     ∙ xor_told (is_set a k) (is_set b k) (is_set c k) (is_set d k) (apart_at a b k p.apart) (apart_at c d k q.apart))
 
+-- the rows of a word, exchanged, are its complement, lane by lane
 pub not_lanes : (a b : ℕ) → AreApart a b → lanes_of b a ≡ lane_operations.complement (lanes_of a b)
 unfolding lanes_of
 not_lanes a b p =
@@ -156,28 +163,34 @@ xor_apart_told : (a b c d : Bool) → (a && b) ≡ false → (c && d) ≡ false
 xor_apart_told = by_two_told (λ a b c d. (((a && c) || (b && d)) && ((a && d) || (b && c))) ≡ false)
     refl refl refl refl refl refl refl refl refl
 
+-- two numbers of at most 64 bits without a common bit are the rows of a word
 pub apart_of : (a b : ℕ) → a < 2 ^ 64 → b < 2 ^ 64 → ((k : ℕ) → (is_set a k && is_set b k) ≡ false) → AreApart a b
 apart_of a b f g h = record { zeros_fit = f; ones_fit = g; apart = apart_from a b h }
 
+-- rows without a lane that is both Zero and One stay so when they are exchanged
 pub not_apart : (a b : ℕ) → AreApart a b → AreApart b a
 not_apart a b p = apart_of b a p.ones_fit p.zeros_fit
     (λ k. not_apart_told (is_set a k) (is_set b k) (apart_at a b k p.apart))
 
+-- AND with a number of at most 64 bits has at most 64 bits
 pub and_fits : (a b : ℕ) → a < 2 ^ 64 → bit_and a b < 2 ^ 64
 and_fits a b h = let l = and_le_l a b in omega arith
 
+-- the rows of AND have no lane that is both Zero and One
 pub and_apart : (a b c d : ℕ) → AreApart a b → AreApart c d → AreApart (bit_or a c) (bit_and b d)
 and_apart a b c d p q =
     apart_of (bit_or a c) (bit_and b d) (or_lt 64 a c p.zeros_fit q.zeros_fit) (and_fits b d p.ones_fit)
     (λ k. (λ i. set_or a c k i && set_and b d k i) ∙ and_apart_told (is_set a k) (is_set b k) (is_set c k)
     (is_set d k) (apart_at a b k p.apart) (apart_at c d k q.apart))
 
+-- the rows of OR have no lane that is both Zero and One
 pub or_apart : (a b c d : ℕ) → AreApart a b → AreApart c d → AreApart (bit_and a c) (bit_or b d)
 or_apart a b c d p q =
     apart_of (bit_and a c) (bit_or b d) (and_fits a c p.zeros_fit) (or_lt 64 b d p.ones_fit q.ones_fit)
     (λ k. (λ i. set_and a c k i && set_or b d k i) ∙ or_apart_told (is_set a k) (is_set b k) (is_set c k) (is_set d k)
     (apart_at a b k p.apart) (apart_at c d k q.apart))
 
+-- the rows of XOR have no lane that is both Zero and One
 pub xor_apart : (a b c d : ℕ) → AreApart a b → AreApart c d
     → AreApart (bit_or (bit_and a c) (bit_and b d)) (bit_or (bit_and a d) (bit_and b c))
 xor_apart a b c d p q =

@@ -34,6 +34,7 @@ opposite_one true false h = refl
 opposite_one false true h = refl
 opposite_one false false h = refl
 
+-- no value is opposite to an unknown one
 pub opposite_unknown : (v : Tern) → false ≡ are_opposite Unk v
 opposite_unknown Zero = refl
 opposite_unknown One = refl
@@ -59,11 +60,13 @@ other_unknown false false = (λ h. cc, λ other. absurd (other refl))
 on_lane : (w : Lanes) (a b k : ℕ) → k < 64 → lanes_of a b ≡ w → lane_value a b k ≡ lane w k
 on_lane w a b k h view = sym (lane_is a b k h) ∙ ap (λ (x : Lanes). lane x k) view
 
+-- a lane is opposite to Zero exactly where its bit is set in the one row
 pub opposite_of_zero : (w : Lanes) (a b k : ℕ) → k < 64 → AreApart a b → lanes_of a b ≡ w
     → is_set b k ≡ are_opposite Zero (lane w k)
 opposite_of_zero w a b k h p view = opposite_zero (is_set a k) (is_set b k) (apart_at a b k p.apart)
     ∙ ap (are_opposite Zero) (on_lane w a b k h view)
 
+-- a lane is opposite to One exactly where its bit is set in the zero row
 pub opposite_of_one : (w : Lanes) (a b k : ℕ) → k < 64 → AreApart a b → lanes_of a b ≡ w
     → is_set a k ≡ are_opposite One (lane w k)
 opposite_of_one w a b k h p view = opposite_one (is_set a k) (is_set b k) (apart_at a b k p.apart)
@@ -73,12 +76,14 @@ opposite_of_one w a b k h p view = opposite_one (is_set a k) (is_set b k) (apart
 abbrev TellsOther : Bool → Tern → Tern → Type 0
 TellsOther bit v value = IsTrue bit ↔ (v ≢ value)
 
+-- a lane has another value than Zero exactly where the complement of the zero row has its bit
 pub other_than_zero : (w : Lanes) (a b k : ℕ) → k < 64 → AreApart a b → lanes_of a b ≡ w
     → IsTrue (is_set (bit_not w64 a) k) ↔ (lane w k ≢ Zero)
 other_than_zero w a b k h p view =
     subst (λ bit. TellsOther bit (lane w k) Zero) (sym (set_not a k p.zeros_fit h))
     (subst (λ v. TellsOther (not (is_set a k)) v Zero) (on_lane w a b k h view) (other_zero (is_set a k) (is_set b k)))
 
+-- a lane has another value than One exactly where the complement of the one row has its bit
 pub other_than_one : (w : Lanes) (a b k : ℕ) → k < 64 → AreApart a b → lanes_of a b ≡ w
     → IsTrue (is_set (bit_not w64 b) k) ↔ (lane w k ≢ One)
 other_than_one w a b k h p view =
@@ -86,6 +91,7 @@ other_than_one w a b k h p view =
     (subst (λ v. TellsOther (not (is_set b k)) v One) (on_lane w a b k h view)
     (other_one (is_set a k) (is_set b k) (apart_at a b k p.apart)))
 
+-- a lane is definite exactly where one of the two rows has its bit
 pub other_than_unknown : (w : Lanes) (a b k : ℕ) → k < 64 → AreApart a b → lanes_of a b ≡ w
     → IsTrue (is_set (bit_or a b) k) ↔ (lane w k ≢ Unk)
 other_than_unknown w a b k h p view =
@@ -93,5 +99,6 @@ other_than_unknown w a b k h p view =
     (subst (λ v. TellsOther (is_set a k || is_set b k) v Unk) (on_lane w a b k h view)
     (other_unknown (is_set a k) (is_set b k)))
 
+-- the empty set of lanes is that of the lanes opposite to an unknown value
 pub none_opposite : (v : Tern) (k : ℕ) → is_set 0 k ≡ are_opposite Unk v
 none_opposite v k = ap (λ n. eqb n 1) (bit_at-zero k) ∙ opposite_unknown v

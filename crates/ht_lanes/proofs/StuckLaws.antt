@@ -54,6 +54,7 @@ not_test zero h = refl
 not_test (suc zero) h = refl
 not_test (suc (suc x)) h = absurd (omega (arith, h))
 
+-- a bit of a complement of 64 bits is set where the number's isn't
 pub set_not : (n k : ℕ) → n < 2 ^ 64 → k < 64 → is_set (bit_not w64 n) k ≡ not (is_set n k)
 set_not n k f h = ap (λ m. eqb m 1) (bit_at_not w64 n k f h) ∙ not_test (bit_at n k) (bit_at-lt n k)
 
@@ -76,6 +77,7 @@ ones_at b l v k f h =
     set_or (bit_and b (bit_not w64 l)) (bit_and l v) k
     ∙ (λ i. (set_and b (bit_not w64 l) k ∙ ap (λ t. is_set b k && t) (set_not l k f h)) i || set_and l v k i)
 
+-- rows with a set of lanes stuck at their bits are the rows of the word with these lanes stuck
 pub rows_stuck : (w : Lanes) (a b l v : ℕ) → l < 2 ^ 64 → v < 2 ^ 64 → lanes_of a b ≡ w
     → lanes_of (stuck_zeros a l v) (stuck_ones b l v) ≡ stuck_lanes l v w
 unfolding lanes_of
@@ -86,6 +88,7 @@ rows_stuck w a b l v f g view =
     ∙ (stuck_told (is_set a k) (is_set b k) (is_set l k) (is_set v k)
     ∙ ap (cond (is_set l k) (tern_of (is_set v k))) (sym (lane_is a b k h) ∙ ap (λ (x : Lanes). lane x k) view)))
 
+-- rows with lanes stuck in them still have no lane that is both Zero and One
 pub stuck_apart : (a b l v : ℕ) → l < 2 ^ 64 → v < 2 ^ 64 → AreApart a b
     → AreApart (stuck_zeros a l v) (stuck_ones b l v)
 stuck_apart a b l v f g p =

@@ -15,6 +15,7 @@ more_by_suc (v ∷ start) (b ∷ state) zero inside there before here = (here, t
 more_by_suc (v ∷ start) (b ∷ state) (suc k) inside there before here =
     (before.0, more_by_suc start state k (omega arith) (omega arith) before.1 here)
 
+-- a start that allows the first k latches of a state allows one more where its value stands for that latch's bit
 pub allows_more : (start : List Tern) (state : List Bool) (k : ℕ) → k < length start → k < length state
     → Allows (take k start) (take k state) → StandsFor (get_or start k Unk) (get_or state k false)
     → Allows (take (k + 1) start) (take (k + 1) state)
@@ -30,6 +31,7 @@ allows_at (v ∷ start) [] k inside h = absurd h
 allows_at (v ∷ start) (b ∷ state) zero inside h = h.0
 allows_at (v ∷ start) (b ∷ state) (suc k) inside h = allows_at start state k (omega arith) h.1
 
+-- a start and a state that it allows are of one length
 pub allows_long : (start : List Tern) (state : List Bool) → Allows start state → length start ≡ length state
 allows_long [] [] h = refl
 allows_long [] (b ∷ state) h = absurd h

@@ -21,6 +21,7 @@ pub machine_refines : (fault : Option Fault) → Preserves Refines (tern_rules f
 machine_refines fault = rules_keep Refines Unk Unk gate_value gate_value (λ b v. tern_of b) (λ b v. tern_of b)
     (inl refl) gate_refines (λ b x y r. inr refl) fault
 
+-- a list of values refines itself
 pub same_refines : (xs : List Tern) → AllRelated Refines xs xs
 same_refines [] = tt
 same_refines (x ∷ xs) = (inr refl, same_refines xs)

@@ -95,6 +95,7 @@ operated_results Xnor s t hs ht = xor_results s t hs ht
 operated_results Not s t hs ht = first_results s t hs ht
 operated_results Buf s t hs ht = first_results s t hs ht
 
+-- two sets' rows in the tables give, where they meet, the results of the operation that the kind folds
 pub parts_results : (kind : Kind) {s t : ℕ} → IsValid s → IsValid t → {place : ℕ} {first second : List ℕ}
     → place ≡ place_of kind → first ≡ get_or (get_or FIRST place []) s [] → second ≡ get_or (get_or SECOND place []) t []
     → IsResultOfTwo (operation_of pair_operations kind) s t (met first second)

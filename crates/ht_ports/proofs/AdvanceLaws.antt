@@ -19,6 +19,7 @@ at_end_nil : (left : Option (List ℕ)) (bytes : List ℕ) → bytes ≡ [] → 
 at_end_nil left bytes none e = subst (λ (l : List ℕ). IsAtEnd (prepend_known l left)) (sym none)
     (subst IsAtEnd (sym (prepend_known_nil left)) e)
 
+-- a line that ends within the bytes that wait is the next line of the text still to come
 pub gives_next : (port : InPort) (max_len bytes_read : ℕ) (first bytes : List ℕ) (a b : DeskView) (found : Option ℕ)
     (line taken limit : ℕ)
     → ((n : ℕ) → MayBeLine max_len bytes_read n → n ≤ limit)

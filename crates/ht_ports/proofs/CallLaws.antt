@@ -7,6 +7,7 @@ use Rattle.ht_ports.specs.Desk.{DeskView, IsAfter, ChangesAt, TurnsOn, InCall, O
 use Rattle.ht_ports.specs.declared.ports.InPort.{InPort}
 use Rattle.ht_ports.specs.declared.ports.OutPort.{OutPort}
 
+-- two runs of calls that lower no count of faults and leave the desk as steady do so together too
 pub after_trans : {a b c : DeskView} → IsAfter a b → IsAfter b c → IsAfter a c
 after_trans p q = record {
   in_faults = omega (arith, p.in_faults, q.in_faults);
@@ -22,6 +23,7 @@ turns_trans : {Port : Type 0} {port : Port} {x y z : Port → Bool} → TurnsOn 
     → TurnsOn port x z
 turns_trans p q = record { others = λ o ne. q.others o ne ∙ p.others o ne; stays = λ on. q.stays (p.stays on) }
 
+-- two calls at an in-port, one after the other, change together only what one may
 pub in_call_trans : (port : InPort) (a b c : DeskView) → InCall port a b → InCall port b c → InCall port a c
 in_call_trans port a b c p q = record {
   after = after_trans p.after q.after;
@@ -33,6 +35,7 @@ in_call_trans port a b c p q = record {
   is_open = turns_trans p.is_open q.is_open;
 }
 
+-- reads at a port and then more of them are reads at that port
 pub reads_trans : (port : InPort) (a b c : DeskView) → Reads port a b → Reads port b c → Reads port a c
 reads_trans port a b c p q = record {
   call = in_call_trans port a b c p.call q.call;
@@ -55,6 +58,7 @@ out_call_trans port a b c p q same = record {
       (λ file. subst (λ (o : Option (List ℕ)). IsOtherName o n) same (other file));
 }
 
+-- writes at a port and then more of them are writes at that port
 pub writes_trans : (port : OutPort) (a b c : DeskView) → Writes port a b → Writes port b c → Writes port a c
 writes_trans port a b c p q = record {
   call = out_call_trans port a b c p.call q.call (ap (λ f. f port) q.named);
@@ -62,11 +66,13 @@ writes_trans port a b c p q = record {
   is_created = q.is_created ∙ p.is_created;
 }
 
+-- one list and then another appended to a text are both appended at once
 pub append_known_more : (known : Option (List ℕ)) (xs ys : List ℕ) → append_known (append_known known xs) ys
     ≡ append_known known (xs ++ ys)
 append_known_more None xs ys = refl
 append_known_more (Some known) xs ys = ap Some (append_assoc known xs ys)
 
+-- bytes that are added to a port, and then more of them, are added as one list
 pub added_more : (port : OutPort) (a b c : DeskView) (xs ys : List ℕ) → Added port xs a b → Added port ys b c
     → Added port (xs ++ ys) a c
 added_more port a b c xs ys p q = record
@@ -77,10 +83,12 @@ pub added_part : (port : OutPort) (a b c : DeskView) (text : List ℕ) (done n :
     → Added port (take n (drop done text)) b c → Added port (take (done + n) text) a c
 added_part port a b c text done n p q = rw (take-add done n text) (added_more port a b c _ _ p q)
 
+-- an empty list prepended to a text leaves it
 pub prepend_known_nil : (known : Option (List ℕ)) → prepend_known [] known ≡ known
 prepend_known_nil None = refl
 prepend_known_nil (Some xs) = refl
 
+-- one list and then another prepended to a text are both prepended at once
 pub prepend_known_more : (known : Option (List ℕ)) (xs ys : List ℕ) → prepend_known xs (prepend_known ys known)
     ≡ prepend_known (xs ++ ys) known
 prepend_known_more None xs ys = refl

@@ -33,6 +33,7 @@ lf_length bytes more i lf =
     ap length whole ∙ length-append (take i bytes) (10 ∷ []) ∙ ap (λ n. n + 1)
     (length-take-le i bytes (omega (arith, lf.within)))
 
+-- where the first LF is known, the answer for the piece before it is the answer for the bytes that wait
 pub ends_at_lf : (max_len bytes_read : ℕ) (bytes : List ℕ) (i : ℕ) (r : LineEnd) → IsFirstLf bytes i
     → EndsPiece max_len bytes_read (take i bytes) (i + 1) r → IsLineEnd max_len bytes_read bytes (Some i) r
 ends_at_lf max_len bytes_read bytes i NoLine lf e = absurd e
@@ -81,6 +82,7 @@ alone max_len bytes_read bytes none = ⊎_elim
     through : first_through (bytes ++ []) ≡ bytes
     through = first_through-none bytes [] none ∙ append-nil bytes
 
+-- where no LF waits but some byte does, the answer for all bytes as one piece is the answer for them
 pub ends_with_text : (max_len bytes_read : ℕ) (bytes : List ℕ) (r : LineEnd) → HasNoLf bytes → 0 < length bytes
     → EndsPiece max_len bytes_read bytes (length bytes) r → IsLineEnd max_len bytes_read bytes None r
 ends_with_text max_len bytes_read bytes NoLine none some e = absurd e

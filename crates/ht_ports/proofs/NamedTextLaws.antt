@@ -9,12 +9,14 @@ use Rattle.std.proofs.lemmas.Slice.Eq.{bytes_eq-Decides}
 use Rattle.ht_ports.specs.NamedTexts.{text_named, bytes_at, opened_in}
 use Rattle.ht_ports.specs.declared.clean.NamedText.{NamedText}
 
+-- the bytes at an index are those of the text there
 pub bytes_in : (texts : List NamedText) (k : ℕ) (d : NamedText) → k < length texts → bytes_at texts k
     ≡ (get_or texts k d).bytes.items
 bytes_in [] k d lt = absurd (omega arith)
 bytes_in (t ∷ texts) zero d lt = refl
 bytes_in (t ∷ texts) (suc k) d lt = bytes_in texts k d (omega arith)
 
+-- there are no bytes after the last text
 pub bytes_past : (texts : List NamedText) (k : ℕ) → length texts ≤ k → bytes_at texts k ≡ []
 bytes_past [] k le = refl
 bytes_past (t ∷ texts) zero le = absurd (omega arith)
@@ -27,6 +29,7 @@ bytes_push [] new k lt = absurd (omega arith)
 bytes_push (t ∷ texts) new zero lt = refl
 bytes_push (t ∷ texts) new (suc k) lt = bytes_push texts new k (omega arith)
 
+-- a new text leaves the bytes of a text that is open
 pub opened_push : (texts : List NamedText) (new : NamedText) (opened : Option ℕ)
     → ForSome opened (λ k. k < length texts) → opened_in (texts ++ new ∷ []) opened ≡ opened_in texts opened
 opened_push texts new None there = refl
@@ -55,10 +58,12 @@ if_false : (b : Bool) (x y : Option (List ℕ)) → b ≡ false → (if b then x
 if_false false x y e = refl
 if_false true x y e = cc
 
+-- a new text is found under a name that equals its own by the test
 pub named_new : (texts : List NamedText) (new : NamedText) (name : List ℕ)
     → bytes_eq (string_bytes new.name) name ≡ true → text_named (texts ++ new ∷ []) name ≡ Some new.bytes.items
 named_new texts new name is = named_push texts new name ∙ if_true _ _ _ is
 
+-- a new text leaves what is found under a name that differs from its own by the test
 pub named_other : (texts : List NamedText) (new : NamedText) (name : List ℕ)
     → bytes_eq (string_bytes new.name) name ≡ false → text_named (texts ++ new ∷ []) name ≡ text_named texts name
 named_other texts new name is = named_push texts new name ∙ if_false _ _ _ is

@@ -17,11 +17,13 @@ next_ok : {old new : LinesView} {a b : DeskView} {result : Result (Option (Bor (
 next_ok {old = old} {new = new} {a = a} {b = b} next is =
     subst (λ (r : Result (Option (Bor (List ℕ))) LineFault). IfOk r (Answers old new a b)) is next.answer
 
+-- where `next` answers a line, it gives that line
 pub next_some : {old new : LinesView} {a b : DeskView} {result : Result (Option (Bor (List ℕ))) LineFault}
     {o : Option (Bor (List ℕ))} {line : Bor (List ℕ)}
     → Next old new a b result → result ≡ Ok o → o ≡ Some line → Gives line.now old new a b
 next_some {old = old} {new = new} {a = a} {b = b} next is some = subst (Answers old new a b) some (next_ok next is)
 
+-- where `next` answers none, there is no further line
 pub next_none : {old new : LinesView} {a b : DeskView} {result : Result (Option (Bor (List ℕ))) LineFault}
     {o : Option (Bor (List ℕ))}
     → Next old new a b result → result ≡ Ok o → o ≡ None → GivesNone old new a b

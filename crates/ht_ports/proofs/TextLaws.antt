@@ -24,6 +24,7 @@ splits_lf text piece taken rest none is lf =
       size = ap length is ∙ length-append taken rest;
     }
 
+-- bytes without an LF are one line, if there are any
 pub lines-last : (piece : List ℕ) → HasNoLf piece → 0 < length piece → lines_of piece ≡ without_cr piece ∷ []
 lines-last [] none some = absurd (omega arith)
 lines-last (x ∷ piece) none some = ap (map without_cr) (pieces-last x piece none)
@@ -37,6 +38,7 @@ splits_last text piece taken rest none is same some end = record {
   size = ap length is ∙ length-append taken rest;
 }
 
+-- the next line of a text that is known is the first of its lines, and the rest is known too
 pub next_splits : (line : List ℕ) (count : ℕ) (text : List ℕ) (new : Option (List ℕ))
     → NextLine line count (Some text) new
     → (rest : List ℕ) × (new ≡ Some rest) × SplitsOff text line count rest
@@ -75,10 +77,12 @@ pub first_of : (x : ℕ) (text : List ℕ) → (more : List (List ℕ)) × (piec
 first_of x [] = one_more x [] [] refl
 first_of x (y ∷ text) = let rest = first_of y text in one_more x (y ∷ text) rest.0 (ap (before_first_piece x) rest.1)
 
+-- the first piece with its LF is no longer than the text
 pub length-first_through : (text : List ℕ) → length (first_through text) ≤ length text
 length-first_through [] = omega arith
 length-first_through (x ∷ text) = let rest = length-first_through text in grind (arith, nat_tests)
 
+-- the first line of a text that isn't empty is its first piece without a CR at its end
 pub first_line : (x : ℕ) (text : List ℕ) → (more : List (List ℕ))
     × (lines_of (x ∷ text) ≡ without_cr (first_piece (x ∷ text)) ∷ more)
 first_line x text = let first = first_of x text in (map without_cr first.0, ap (map without_cr) first.1)

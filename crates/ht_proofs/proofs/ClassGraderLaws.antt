@@ -32,6 +32,7 @@ none_detected c fault start t o d =
 abbrev pub nowhere : Option Place
 nowhere = None
 
+-- where every entry is none, no fault has a place
 pub none_placed : (n i : ℕ) (places : List (Option Place)) → places ≡ replicate n None → place_at places i ≡ None
 none_placed n i places is =
     ap (λ (l : List (Option Place)). get_or l i None) is ∙ elim (le_or_lt n i) [
@@ -107,6 +108,7 @@ adds g h start before more circuit live runs first within stands = record {
 
 -- ---- what a verdict says
 
+-- the entry of a representative is the verdict on its fault over the list that the grader stands for
 pub verdict_on : (g : ClassGraderView) (start : List Tern) (list : List (List Bool)) (i : ℕ) (place : Option Place)
     → i < length (faults_of g.machines.circuit) → is_representative g.representatives i ≡ true
     → place ≡ place_at g.places i → ClassGraderStandsFor g start list
@@ -147,6 +149,7 @@ module _ (g : ClassGraderView) (faults : AreOfClasses g.machines g.representativ
   none_seen start list undetected None first = refl
   none_seen start list undetected (Some p) first = absurd (undetected p.vector p.output first.0)
 
+  -- the machine of a representative without a place has the latches that its fault gives after the list
   pub state_after : (start : List Tern) (list : List (List Bool)) → i < length (faults_of g.machines.circuit)
       → is_representative g.representatives i ≡ true → place_at g.places i ≡ None → g.live ≡ true
       → ClassGraderStandsFor g start list

@@ -90,6 +90,7 @@ empty_entry true n table empty x = ap (λ (t : List Firsts). get_or t x no_first
       | inr inside ↦ get_or-replicate n x no_firsts no_firsts inside
     ]
 
+-- a fault that joins a table joins it also as the table of a frame in which ends were found
 pub joins_if : (x : ℕ) (v : Tern) (i : ℕ) (found later : Bool) (table : List Firsts) (followers : List Follower)
     (lane : Bool) (after : List Firsts) (more : List Follower) → found ≡ true → later ≡ found
     → Joins x v i table followers lane after more

@@ -36,6 +36,7 @@ use Rattle.ht_proofs.proofs.VectorLaws.{found_inside, option_cases}
 
 -- ---- what is read of the grades
 
+-- the latches of a fault's machine are the good ones but for its differences
 pub state_of : (latches : List Tern) (grades : List Grade) (k : ℕ) → k < length grades
     → get_or (faulty_states latches grades) k [] ≡ with_differences latches (grade_at grades k).diffs
 state_of latches grades k inside =
@@ -135,6 +136,7 @@ undetected_at_start n =
     (range_with_len 0 (length none))
     ∙ ap (range_with_len 0) (length-replicate {A = Option Place} n None)
 
+-- a grader before the first vector stands for the list of no vectors
 pub start_stands : (c : Netlist) (start : List Tern) (faults : List Fault)
     → GraderStandsFor (grades_at_start c start faults) start []
 start_stands c start faults = record {
@@ -211,6 +213,7 @@ grades_by c faults count latches verdicts grades live = record {
   live = live;
 }
 
+-- fields as they are at the start are a grader before the first vector
 pub start_view : (c d : Netlist) (start : List Tern) (faults : List Fault) (latches : List Tern)
     (verdicts : List (Option Place))
     (grades : List Grade) → d ≡ c → latches ≡ start → verdicts ≡ replicate (length faults) None
@@ -242,6 +245,7 @@ pub record HasRun (g : PackedView) (old : List Grade) (vector : List Bool) (fram
   pub long : length new ≡ length old
   pub all : IsGradedFrame frame g.faults g.count old new
 
+-- after a frame of all faults has run, one more vector was applied
 pub is_applied : (g : PackedView) (old : List Grade) (vector : List Bool) (frame : GroupView) (h : PackedView)
     (new : List Grade) → HasRun g old vector frame h new → IsApplied g vector h
 is_applied g old vector frame h new run = record {

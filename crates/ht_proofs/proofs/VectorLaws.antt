@@ -77,6 +77,7 @@ pub found_inside : (c : Netlist) (f : Fault) (start : List Tern) (list : List (L
 found_inside c f start list t o d =
     (opposite_within (output_from c None start list t o) c (Some f) start list t o d).0
 
+-- what is detected is detected at an output of the circuit
 pub found_output : (c : Netlist) (f : Fault) (start : List Tern) (list : List (List Bool)) (t o : ℕ)
     → DetectsFrom c f start list t o → o < length c.outputs
 found_output c f start list t o d =
@@ -185,6 +186,7 @@ first_new frame m start list v number None last count none is = λ t o d. elim (
   | inr before ↦ none t o (detects_shorter frame.circuit m.fault start list v t o before d)
 ]
 
+-- an option is none or holds something
 pub option_cases : {X : Type 0} → (x : Option X) → (x ≡ None) ⊎ ((p : X) × (x ≡ Some p))
 option_cases None = inl refl
 option_cases (Some p) = inr (p, refl)
@@ -206,6 +208,7 @@ last_frame g start list v k f s has none = record {
   faulty = s.state k f has none;
 }
 
+-- a grader that stands for a list stands for one vector more after that vector is applied
 pub applied_stands : (g h : PackedView) (start : List Tern) (list : List (List Bool)) (v : List Bool)
     → GraderStandsFor g start list
     → IsApplied g v h → GraderStandsFor h start (list ++ v ∷ [])

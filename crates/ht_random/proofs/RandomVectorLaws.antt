@@ -24,6 +24,7 @@ random_vector_length (suc n) g =
 random_vectors_grow : (n seed : ℕ) → Grows (λ k. random_vector n (generator_after n k seed)) (λ k. random_vectors n k seed)
 random_vectors_grow n seed = record { none = refl; more = λ k. refl }
 
+-- the list of the first k random vectors has k members
 pub random_vectors_count : (n k seed : ℕ) → length (random_vectors n k seed) ≡ k
 random_vectors_count n k seed = grown_count _ _ (random_vectors_grow n seed) k
 

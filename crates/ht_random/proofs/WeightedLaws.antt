@@ -16,6 +16,7 @@ vector_by_length weights (suc n) g =
     let before = vector_by_length weights n g in
     grind (arith, common_steps, length-append, before)
 
+-- a weighted vector for n inputs has n bits
 pub weighted_vector_length : (n k seed : ℕ) → length (weighted_vector n k seed) ≡ n
 unfolding weighted_vector
 weighted_vector_length n k seed = vector_by_length (drawn_weights n (burst_start n (k / burst_length) seed)) n
@@ -24,6 +25,7 @@ weighted_vector_length n k seed = vector_by_length (drawn_weights n (burst_start
 weighted_vectors_grow : (n seed : ℕ) → Grows (λ k. weighted_vector n k seed) (λ k. weighted_vectors n k seed)
 weighted_vectors_grow n seed = record { none = refl; more = λ k. refl }
 
+-- the list of the first k weighted vectors has k members
 pub weighted_vectors_count : (n k seed : ℕ) → length (weighted_vectors n k seed) ≡ k
 weighted_vectors_count n k seed = grown_count _ _ (weighted_vectors_grow n seed) k
 

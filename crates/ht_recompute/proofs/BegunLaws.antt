@@ -22,6 +22,7 @@ module _ (a : Inside) (lent decisions : List (Option Tern)) (is : lent ≡ a.dec
   pub written_over : (seen : List (Option Tern)) → seen ≡ (with_items a.decisions decisions).items → seen ≡ decisions
   written_over seen after = after ∙ with_items_is a.decisions decisions (omega (arith, long, ap length is))
 
+  -- a frame whose latches are by the decisions that are lent again is begun with those that were written
   pub frame_begun : (seen : List (Option Tern)) (s : FrameState) → HasWindowRoom a
       → seen ≡ (with_items a.decisions decisions).items
       → s ≡ record a.frame { latches = latches_by a.start seen a.frame.circuit } → IsFrameBegun a decisions s
@@ -33,6 +34,7 @@ module _ (a : Inside) (lent decisions : List (Option Tern)) (is : lent ≡ a.dec
         ∙ ap (λ (d : List (Option Tern)). latches_by a.start d a.frame.circuit) (written_over seen after);
   }
 
+  -- a frame that ran by the decisions that are lent again ran by those that were written
   pub frame_ran : (seen : List (Option Tern)) (s new : FrameState)
       → seen ≡ (with_items a.decisions decisions).items
       → new ≡ frame_after s (inputs_by seen 0 s.circuit.inputs)

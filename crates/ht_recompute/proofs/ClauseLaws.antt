@@ -53,6 +53,7 @@ module _ (w : SearchWindow) (path : List Assign3) (sets : List (List Pair))
   must_same : (l : Literal) → IsInside l → must_miss_in sets l ≡ must_miss w path l
   must_same l inside = (λ k. may_same l inside k && not (is_undetermined (are l.dff inside k)))
 
+  -- the status of a breach by the sets of the next states is its status in the window
   pub breach_is : (literals : List Literal) → AreKnown w.circuit literals
       → breach_in sets literals ≡ breach_status w path literals
   breach_is literals known =
@@ -117,6 +118,7 @@ module _ (a : Inside) (w : SearchWindow) (view : window_of a ≡ w) (one : w.fra
   seen_is : seen ≡ decisions
   seen_is = written_over a lent decisions is long seen after
 
+  -- what clauses make of a status by the decisions that were written is what they make of it by the path
   pub under_is : (sought : Status3) → under_in seen first clauses sought
       ≡ under_clauses w.circuit path (literals_of_each clauses) sought
   under_is sought =

@@ -52,6 +52,7 @@ module _ (value : ℕ → Tern) (set : ℕ → List Pair) where
       head (is_definite (value i)) (is_definite x) i _ (record { value = x; set = y }) _ (ap is_definite (sym here))
       (record { value_is = here; set_is = there }) rest
 
+-- tests that agree on related items agree on whether all of related lists pass
 pub all_related : {R : ℕ → WantedLatch → Type 0} → (F : ℕ → Bool) (T : WantedLatch → Bool) (js : List ℕ)
     (xs : List WantedLatch) → ((j : ℕ) (x : WantedLatch) → R j x → F j ≡ T x) → AllRelated R js xs
     → list_all F js ≡ list_all T xs

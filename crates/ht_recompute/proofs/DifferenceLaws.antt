@@ -7,6 +7,7 @@ use Rattle.ht_pairs.specs.Pairs.{Pair, differs}
 use Rattle.ht_recompute.specs.declared.differences.Differences.{Differences}
 use Rattle.ht_recompute.specs.Differences.{differences_in, in_either}
 
+-- what two lists of sets show together is what the joined list shows
 pub differences_append : (xs ys : List (List Pair)) → in_either (differences_in xs) (differences_in ys)
     ≡ differences_in (xs ++ ys)
 differences_append xs ys =

@@ -13,12 +13,14 @@ use Rattle.ht_recompute.specs.FrameSetsOf.{FrameState, frame_after, inputs_by, l
 -- what the outputs show and the flip-flops take, where the nets have their sets in a frame
 module _ (c : Netlist) (fault : Option Fault) (vector latches values : List (List Pair)) (circuit : IsCircuit c)
     (sets : (x : ℕ) → x < net_count c → sets_of values x ≡ net_value c (pair_set_rules fault) vector latches x) where
+  -- where the nets have their sets in a frame, the outputs show those of the frame
   pub frame_shown : values_at (sets_of values) c.outputs ≡ frame_outputs c (pair_set_rules fault) vector latches
   unfolding frame_outputs
   frame_shown =
       seen_same (sets_of values) (net_value c (pair_set_rules fault) vector latches) c.outputs
       (λ o l. sets (get_or c.outputs o no_net).0 (circuit.outputs_known o l))
 
+  -- where the nets have their sets in a frame, the flip-flops take its next states
   pub frame_taken : data_values (pair_set_rules fault) (sets_of values) 0 c.dffs
       ≡ next_state c (pair_set_rules fault) vector latches
   unfolding next_state
@@ -33,6 +35,7 @@ pub record RanFrame (s new : FrameState) (decisions : List (Option Tern)) (f : �
   pub latches : new.latches ≡ latches_after s decisions (f + 1)
   pub outputs : new.outputs ≡ outputs_of_frame s decisions f
 
+-- a frame run after f others by their decisions has the outputs of frame f, and the latches after it
 pub ran_frame : (s now new : FrameState) (decisions : List (Option Tern)) (f first : ℕ) → now.circuit ≡ s.circuit
     → now.fault ≡ s.fault → now.latches ≡ latches_after s decisions f → first ≡ f * s.circuit.inputs
     → new ≡ frame_after now (inputs_by decisions first now.circuit.inputs) → RanFrame s new decisions f

@@ -26,6 +26,7 @@ map_same f g i n d h =
     listed_by g i n (map f (range_with_len i n)) d (length-map-range_with_len f i n)
     (λ k l. get_or-map-range_with_len f i n k (i + k) d l refl ∙ h k l)
 
+-- lists by number that are equal for each number are equal joined
 pub flat_same : {V : Type 0} → (f g : ℕ → List V) (i n : ℕ) → ((k : ℕ) → k < i + n → f k ≡ g k)
     → flat_map f (range_with_len i n) ≡ flat_map g (range_with_len i n)
 flat_same f g i zero h = refl
@@ -65,6 +66,7 @@ module _ (w : SearchWindow) (path : List Assign3) (decisions : List (Option Tern
         let good = written (w.circuit.inputs + j) (below _ (omega (arith, l))) in
         (λ i. map (λ v. pair v v) (latch_values_left (good i)))
 
+    -- the first latches by the decisions that were written are those of the window at the path
     pub first_are : map (first_latch_by w.start decisions w.circuit.inputs (length w.circuit.dffs))
         (range_with_len 0 (length w.circuit.dffs)) ≡ first_latches w path
     first_are =
@@ -74,6 +76,7 @@ module _ (w : SearchWindow) (path : List Assign3) (decisions : List (Option Tern
   -- frame by frame
   module _ (s : FrameState) (circuit : s.circuit ≡ w.circuit) (fault : s.fault ≡ w.fault)
       (latches : s.latches ≡ first_latches w path) where
+    -- the latches before frame f by the decisions that were written are those of the window at the path
     pub latches_are : (f : ℕ) → f ≤ w.frames → latches_after s decisions f ≡ latches_at w path f
     unfolding latches_at
     latches_are zero l = latches
@@ -84,6 +87,7 @@ module _ (w : SearchWindow) (path : List Assign3) (decisions : List (Option Tern
         (inputs_by decisions (f * (circuit i).inputs) (circuit i).inputs) (latches_after s decisions f))
         ∙ (λ i. next_state w.circuit (pair_set_rules w.fault) (vector i) (before i))
 
+    -- the outputs in frame f by the decisions that were written are those of the window at the path
     pub outputs_are : (f : ℕ) → f < w.frames → outputs_of_frame s decisions f
         ≡ values_at (cell_at w path f) w.circuit.outputs
     unfolding frame_outputs
@@ -94,6 +98,7 @@ module _ (w : SearchWindow) (path : List Assign3) (decisions : List (Option Tern
         (inputs_by decisions (f * (circuit i).inputs) (circuit i).inputs) (latches_after s decisions f))
         ∙ (λ i. frame_outputs w.circuit (pair_set_rules w.fault) (vector i) (before i))
 
+    -- the outputs in all frames by the decisions that were written are those of the window at the path
     pub outputs_flat : flat_map (outputs_of_frame s decisions) (range_with_len 0 w.frames)
         ≡ flat_map (λ f. values_at (cell_at w path f) w.circuit.outputs) (range_with_len 0 w.frames)
     outputs_flat =

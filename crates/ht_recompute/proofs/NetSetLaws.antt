@@ -40,6 +40,7 @@ gate_kept c fault g before values same read settled =
 
 -- Gates have the ranks from that of the first gate's net on.
 module _ (c : Netlist) (s : Schedule) (is : IsSchedule c s) where
+  -- the net of a rank from that of the first gate's net on is a gate's
   pub gate_of_rank : (rank : ℕ) → first_gate_net c ≤ rank → rank < net_count c
       → first_gate_net c ≤ get_or s.order.items rank 0
   gate_of_rank rank high inside = elim (le_or_lt (first_gate_net c) (get_or s.order.items rank 0)) [
@@ -50,6 +51,7 @@ module _ (c : Netlist) (s : Schedule) (is : IsSchedule c s) where
         absurd (omega (arith, first, forth, source, high))
   ]
 
+  -- each gate has a rank from that of the first gate's net on
   pub rank_of_gate : (g : ℕ) → g < length c.gates → first_gate_net c ≤ gate_rank c s g
   rank_of_gate g inside = elim (le_or_lt (first_gate_net c) (gate_rank c s g)) [
     | inl high ↦ high

@@ -36,6 +36,7 @@ find_any test [] some = none_sure some
 find_any test (p ∷ ps) some =
     first_sure (test p) p (find test ps) (list_any test ps) some (find_any test ps some)
 
+-- some item passes the test of what it is mapped to exactly where some item of the mapped list passes
 pub any_map : {X Y : Type 0} → (test : Y → Bool) (f : X → Y) (xs : List X)
     → list_any (λ x. test (f x)) xs ≡ list_any test (map f xs)
 any_map test f [] = refl

@@ -28,6 +28,7 @@ use Rattle.ht_recompute.proofs.FreshLaws.{map_same, first_are, latches_are, outp
 use Rattle.ht_recompute.proofs.FrameSetLaws.{ran_frame}
 use Rattle.ht_recompute.proofs.PlaceLaws.{shown_in, status_shown}
 
+-- a window has a frame, whatever its start
 pub some_frames : (c : Netlist) (fault : Option Fault) (frames : ℕ) (s : Start) → IsStart c fault frames s → 0 < frames
 some_frames c fault frames (one_frame z) h = omega (arith, h)
 some_frames c fault frames unknown h = h
@@ -76,6 +77,7 @@ module _ (w : SearchWindow) (path : List Assign3) (decisions : List (Option Tern
       by (States good faulty) h = refl
       by (Back cube limit) h = refl
 
+  -- the status by what the outputs and the next states show is the status of the window at the path
   pub difference_is : seeks_difference w.start ≡ true → (shown states : Differences) (next : List (List Pair))
       → shown ≡ differences_in (flat_map (outputs_of_frame s decisions) (range_with_len 0 w.frames))
       → next ≡ latches_after s decisions w.frames → states ≡ differences_in (state_sets start next)

@@ -154,6 +154,7 @@ module _ (w : ClauseWindow) (path : List Assign3) (is : IsClauseWindow w) where
   sought_none (breach literals) h =
       ap (back_from v path) (none_undetermined literals (breach_sure v path literals h))
 
+  -- where the status under clauses is open, the chosen variable is legal in its kind, and the path doesn't decide it
   pub open_legal : status_under w path ≡ status3.Open → IsLegalChoice v path (pick_under w path)
   open_legal h =
       let o = open_under w path h in
@@ -170,6 +171,7 @@ none_legal : (w : SearchWindow) (path : List Assign3) → DecidesAll w path → 
 none_legal w path all (Two var first) h = let no : true ≡ false = sym (all.two var h.0) ∙ h.1 in cc
 none_legal w path all (Three var) h = let no : true ≡ false = sym (all.three var h.0) ∙ h.1 in cc
 
+-- where a path decides all variables, the status under clauses isn't open
 pub decided_not_open : (w : ClauseWindow) (path : List Assign3) → IsClauseWindow w → DecidesAll w.window path
     → status_under w path ≡ status3.Open → ⊥
 decided_not_open w path is all h = none_legal w.window path all (pick_under w path) (open_legal w path is h)

@@ -50,6 +50,7 @@ some_held c path next (l ∷ literals) known has h =
           (some_held c path next literals (All-tail inside l literals known) has e)
     ]
 
+-- where a clause has a closed window, each frame from a state that meets all clauses leads to one that meets it
 pub closed_keeps : (c : Netlist) (clauses : List (List Literal)) (literals : List Literal) (tokens : List Token)
     → IsCircuit c → AreKnownClauses c clauses → AreKnown c literals
     → IsComplete (judge_under (closing_window c clauses literals)) tokens

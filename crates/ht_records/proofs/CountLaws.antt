@@ -18,6 +18,7 @@ one_frame_seeks unknown h = cc
 one_frame_seeks (state_pair good faulty) h = cc
 one_frame_seeks (back cube limit) h = cc
 
+-- a search under clauses over v variables is never spent where its budget has room for 2^(v + 1) tokens
 pub clause_search_enough : (w : ClauseWindow) (budget : ℕ) (tokens : List Token) (n : Node) → IsClauseWindow w
     → 2 ^ (variable_count w.window + 1) ≤ budget → ¬ SpendsAt (guide_under w) budget 1 tokens n
 clause_search_enough w budget tokens n is h =

@@ -27,6 +27,8 @@ pub record DeadPath (c : Netlist) (fault : Option Fault) (z : List ℕ) (sought 
   pub allows : PathAllows c z path vector s t
   pub dead : sought_status (frame_window c fault z) path sought ≡ Dead
 
+-- from a good state that meets the clauses, a complete walk under them has a path that leaves the vector and both
+-- states, and where what is looked for can't be shown
 pub dead_path : (c : Netlist) (fault : Option Fault) (z : List ℕ) (sought : Sought)
     (clauses : List (List Literal)) (tokens : List Token)
     → AreKnownClauses c clauses

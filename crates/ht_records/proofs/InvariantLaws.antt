@@ -27,6 +27,7 @@ record IsKept (c : Netlist) (clauses : List Clause) (clause : Clause) : Type 0 w
   pub is : IsClause c clause
   pub closed : IsClosedUnder c clauses clause
 
+-- clauses that are each closed under all of them are kept by every frame of the good machine
 pub closed_clauses_kept : (c : Netlist) (clauses : List Clause) → IsCircuit c → All (IsClause c) clauses
     → All (IsClosedUnder c clauses) clauses → AreKept c (literals_of_each clauses)
 closed_clauses_kept c clauses circuit are closed vector state wide held met =
@@ -38,6 +39,7 @@ closed_clauses_kept c clauses circuit are closed vector state wide held met =
     list_all-from_AllPass (meets next) (literals_of_each clauses)
     (All-map (λ (literals : List Literal). meets next literals ≡ true) literals_of clauses each)
 
+-- the clauses of an invariant are kept by every frame of the good machine
 pub invariant_kept : (c : Netlist) (state : List Bool) (clauses : List Clause) → IsCircuit c
     → IsInvariant c state clauses → AreKept c (literals_of_each clauses)
 invariant_kept c state clauses circuit is = closed_clauses_kept c clauses circuit is.known is.closed
@@ -50,6 +52,7 @@ kept_fitted c clauses kept vector state held met =
     ap (meets_each clauses) (next_fitted c (bool_rules None) vector state)
     ∙ kept (fitted c.inputs false vector) state (length-map-range_with_len _ 0 c.inputs) held met
 
+-- from a state that meets clauses which are kept, every run of the good machine ends in one that meets them
 pub run_kept : (c : Netlist) (clauses : List (List Literal)) → AreKept c clauses → (list : List (List Bool))
     (state : List Bool) → IsState c state → meets_each clauses state ≡ true
     → meets_each clauses (run_state c (bool_rules None) state list) ≡ true

@@ -48,6 +48,7 @@ module _ (c : Netlist) (path : List Assign3) (state : List Bool) (leaves : Leave
       (leaves l (All-head (IsLiteralOf c) l literals known)) parts.0)
       (broken_unmet literals (All-tail (IsLiteralOf c) l literals known) parts.1)
 
+  -- a path that leaves a state which meets every clause breaks none of them
   pub none_broken : (clauses : List (List Literal)) → AreKnownClauses c clauses → meets_each clauses state ≡ true
       → list_any (path_breaks c path) clauses ≡ true → ⊥
   none_broken [] known met h = cc
@@ -79,6 +80,7 @@ module _ (c : Netlist) (path : List Assign3) (state : List Bool) (follows : Foll
             (met_literal literals (All-tail (IsLiteralOf c) l literals known) e)
       ]
 
+  -- where a path meets every clause, a state that follows it does too
   pub each_met : (clauses : List (List Literal)) → AreKnownClauses c clauses
       → list_all (path_meets c path) clauses ≡ true → meets_each clauses state ≡ true
   each_met [] known h = refl
@@ -94,11 +96,13 @@ second_known : (c : Netlist) (first : ℕ) (second : Option Literal) → IsSecon
 second_known c first None h = All-nil (IsLiteralOf c)
 second_known c first (Some l) h = All-cons (IsLiteralOf c) l [] h.1 (All-nil (IsLiteralOf c))
 
+-- the literals of a circuit's clause are of its flip-flops
 pub clause_known : (c : Netlist) (clause : Clause) → IsClause c clause → AreKnown c (literals_of clause)
 clause_known c clause is =
     All-cons (IsLiteralOf c) clause.first (second_of clause.second) is.first
     (second_known c clause.first.dff clause.second is.second)
 
+-- the literals of each of a circuit's clauses are of its flip-flops
 pub clauses_known : (c : Netlist) (clauses : List Clause) → All (IsClause c) clauses
     → AreKnownClauses c (literals_of_each clauses)
 clauses_known c clauses are =

@@ -23,12 +23,14 @@ use Rattle.ht_records.proofs.WidthLaws.{fit_list, fit_vectors, shows_fitted}
 use Rattle.ht_net.specs.Undetectable.{IsUndetectable}
 use Rattle.ht_tree.specs.ClosedFamilies.{Closes, Family, HoldsState, IncludesEach, any_vector, shown_sets, taken_sets}
 
+-- in a frame of every vector, there is a set for each flip-flop to take
 pub taken_long : (c : Netlist) (fault : Fault) (family : Family)
     → length (taken_sets c fault family) ≡ length c.dffs
 unfolding next_state
 taken_long c fault family =
     let r = pair_set_rules (Some fault) in taken_length r (net_value c r (any_vector c) family) 0 c.dffs
 
+-- in a frame of every vector, there is a set for each output to show
 pub shown_long : (c : Netlist) (fault : Fault) (family : Family)
     → length (shown_sets c fault family) ≡ length c.outputs
 unfolding frame_outputs
@@ -94,6 +96,7 @@ record IsHeld (family : Family) (good faulty : List Tern) : Type 0 where
   is_good : AllRelated GoodIs pairs good
   is_faulty : AllRelated FaultyIs pairs faulty
 
+-- where the pairs of two states lie in the sets of a family, the pair at each index lies in the set there
 pub held_pair : (family : Family) (pairs : List Pair) (good faulty : List Tern) (j : ℕ)
     → AllRelated Has family pairs → AllRelated GoodIs pairs good → AllRelated FaultyIs pairs faulty
     → j < length family → IsMember (pair (get_or good j Unk) (get_or faulty j Unk)) (get_or family j [])
@@ -187,6 +190,7 @@ module _ (c : Netlist) (fault : Fault) (start : List Tern) (family : Family)
     is_faulty = start_faulty start;
   }
 
+  -- where a family closes for a start, the pair of each latch after a list of vectors is in its set
   pub closed_holds : IsStart c start → (list : List (List Bool)) → AreVectors c list → (j : ℕ) → j < length c.dffs
       → IsMember (pair (get_or (state_from c None start list) j Unk) (get_or (state_from c (Some fault) start list) j Unk))
       (get_or family j [])
@@ -194,15 +198,18 @@ module _ (c : Netlist) (fault : Fault) (start : List Tern) (family : Family)
       let h = run_held list wide start start (begun is) in
       held_pair family h.pairs _ _ j h.held h.is_good h.is_faulty (let e = closes.sets in omega (arith, l, e))
 
+  -- where a family closes for a start, no list detects the fault from the start
   pub closed_silent : IsStart c start → (list : List (List Bool)) (t o : ℕ) → ¬ DetectsFrom c fault start list t o
   closed_silent is list t o d =
       run_silent (fit_list c list) (fit_vectors c list) start start (begun is) t o
       (shows_fitted c fault start start list t o d)
 
+  -- where a family closes for a start, no list detects the fault from all-unknown
   pub closed_undetected : IsStart c start → (list : List (List Bool)) (t o : ℕ) → ¬ Detects c fault list t o
   closed_undetected is list t o d =
       closed_silent is list t o
       (detects_where_refined c fault start (unknown_state c) list t o (start_refines_unknown c start is) d)
 
+  -- where a family closes for a start, the fault is undetectable
   pub closed_undetectable : IsStart c start → IsUndetectable c fault start
   closed_undetectable is = record { from_start = closed_silent is; from_unknown = closed_undetected is }

@@ -37,6 +37,7 @@ module _ (c : Netlist) (fault : Fault) (z : List ℕ) (clauses : List (List Lite
   dead : DeadPath c (Some fault) z difference vector s t
   dead = dead_path c (Some fault) z difference clauses tokens known complete vector s t wide held held' met agree
 
+  -- where the states agree outside the set and the good one meets the clauses, both machines give equal outputs
   pub outputs_agree : frame_outputs c (bool_rules None) vector s ≡ frame_outputs c (bool_rules (Some fault)) vector t
   unfolding frame_outputs
   outputs_agree =
@@ -50,6 +51,7 @@ module _ (c : Netlist) (fault : Fault) (z : List ℕ) (clauses : List (List Lite
       (cell_has c (Some fault) z p.path vector s t p.allows d.0 circuit d.1 x (circuit.outputs_known o l))
       (place_quiet w p.path (record { frame = 0; spot = Output o }) p.dead (output_listed w 0 o (omega arith) l)))
 
+  -- where the states agree outside the set and the good one meets the clauses, the next states agree outside it
   pub next_agrees : AgreeOutside c (is_in z) (next_state c (bool_rules None) vector s)
       (next_state c (bool_rules (Some fault)) vector t)
   next_agrees j inside out =
@@ -59,6 +61,7 @@ module _ (c : Netlist) (fault : Fault) (z : List ℕ) (clauses : List (List Lite
       (next_has c (Some fault) z p.path vector s t p.allows d.0 circuit d.1 j inside)
       (place_quiet w p.path (record { frame = 0; spot = State j }) p.dead (state_listed w z j refl inside out))
 
+-- a complete walk of a fault's one-frame window under clauses seals the fault in the set as long as they are met
 pub walk_seals_in : (c : Netlist) (fault : Fault) (z : List ℕ) (clauses : List (List Literal)) (tokens : List Token)
     → IsCircuit c → AreKnownClauses c clauses → IsComplete (judge_under (window_under c fault z clauses)) tokens
     → SealedIn c fault (is_in z) clauses

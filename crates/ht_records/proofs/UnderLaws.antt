@@ -24,6 +24,7 @@ use Rattle.ht_records.proofs.CountLaws.{clause_search_enough}
 
 module _ (c : Netlist) (fault : Fault) (clauses : List (List Literal)) (z z' : List ℕ)
     (same : (j : ℕ) → is_in z j ≡ is_in z' j) where
+  -- searches under clauses of sets with the same flip-flops go by the same guide
   pub guide_under_same : guide_under (window_under c fault z clauses) ≡ guide_under (window_under c fault z' clauses)
   guide_under_same = (λ k. record {
     judge = record {
@@ -42,10 +43,12 @@ module _ (c : Netlist) (fault : Fault) (clauses : List (List Literal)) (z z' : L
 
 -- whether a path meets or breaks a clause depends on the values that it decided
 module _ (c : Netlist) (p q : List Assign3) (same : (var : ℕ) → decided_value p var ≡ decided_value q var) where
+  -- paths that decided the same values meet the same clauses
   pub meets_by_values : path_meets c p ≡ path_meets c q
   meets_by_values =
       (λ k literals. list_any (λ (l : Literal). is_decided_to l.value (same (c.inputs + l.dff) k)) literals)
 
+  -- paths that decided the same values break the same clauses
   pub breaks_by_values : path_breaks c p ≡ path_breaks c q
   breaks_by_values =
       (λ k literals. list_all (λ (l : Literal). is_decided_against l.value (same (c.inputs + l.dff) k)) literals)

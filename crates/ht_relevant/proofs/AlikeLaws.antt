@@ -21,14 +21,17 @@ doubled_alike v vs = record {
       ap (λ (q : Pair). q.good) m.2 ∙ sym (ap (λ (q : Pair). q.faulty) m.2);
 }
 
+-- the pairs of a value that is the same in both machines, decided or not, are alike
 pub same_alike : (value : Option Tern) → IsAlike (same_pairs value)
 same_alike None = doubled_alike Zero (One ∷ [])
 same_alike (Some v) = doubled_alike v []
 
+-- the pairs of the values left to a latch, each with itself, are alike
 pub left_alike : (value : Option Tern) → IsAlike (map (λ v. pair v v) (latch_values_left value))
 left_alike None = doubled_alike Zero (One ∷ Unk ∷ [])
 left_alike (Some v) = doubled_alike v []
 
+-- a single pair of equal values is alike
 pub one_alike : (a b : Tern) → a ≡ b → IsAlike (pair a b ∷ [])
 one_alike a b e = record {
   some = pair a b;
@@ -83,6 +86,7 @@ same_opposite Zero = λ i. false
 same_opposite One = λ i. false
 same_opposite Unk = λ i. false
 
+-- no pair of an alike set differs
 pub none_differs : (set : List Pair) → IsAlike set → list_any differs set ≡ false
 none_differs set h = by set (λ p m. h.alike p m) where
   by : (s : List Pair) → ((p : Pair) → IsMember p s → p.good ≡ p.faulty) → list_any differs s ≡ false
@@ -100,6 +104,7 @@ second_false : (a b : Bool) → b ≡ false → (a && b) ≡ false
 second_false true b k = k
 second_false false b k = λ i. false
 
+-- not all pairs of an alike set differ
 pub not_all_differ : (set : List Pair) → IsAlike set → list_all differs set ≡ false
 not_all_differ set h = by set h.some h.member (h.alike h.some h.member) where
   by : (s : List Pair) (p : Pair) → IsMember p s → p.good ≡ p.faulty → list_all differs s ≡ false

@@ -11,15 +11,19 @@ use Rattle.ht_relevant.specs.declared.way.Way.{Way}
 use Rattle.ht_relevant.specs.Steps.{AreSpread}
 use Rattle.ht_relevant.specs.Distances.{DistanceState, AreDistances, AreFollowed, HasGrown, IsFollowed, IsLower, number_of, if_none}
 
+-- a number that is less passes the test for it
 pub less_true : (a b : ℕ) → a < b → ltb a b ≡ true
 less_true a b h = grind (arith, nat_tests)
 
+-- a number that passes the test for less is less
 pub true_less : (a b : ℕ) → ltb a b ≡ true → a < b
 true_less a b h = grind (arith, nat_tests)
 
+-- a number that fails the test for less is at least the other
 pub false_least : (a b : ℕ) → ltb a b ≡ false → b ≤ a
 false_least a b h = grind (arith, nat_tests)
 
+-- a number that is at least the other fails the test for less
 pub least_false : (a b : ℕ) → b ≤ a → ltb a b ≡ false
 least_false a b h = grind (arith, nat_tests)
 
@@ -37,9 +41,11 @@ numbered_inside s x h = elim (less_or s.numbers x) [
 
 -- ---- numbers that grow
 
+-- no number has risen where nothing changed
 pub lower_same : (s : DistanceState) → IsLower s s
 lower_same s = record { frames = refl; count = refl; lower = λ x. omega arith }
 
+-- where no number has risen in each of two steps, none has risen in both together
 pub lower_more : (s t u : DistanceState) → IsLower s t → IsLower t u → IsLower s u
 lower_more s t u h k = record {
   frames = k.frames ∙ h.frames;
@@ -47,6 +53,7 @@ lower_more s t u h k = record {
   lower = λ x. let a = h.lower x in let b = k.lower x in omega (arith, a, b);
 }
 
+-- numbers have grown where nothing changed
 pub grown_same : (s : DistanceState) → HasGrown s s
 grown_same s = record {
   lower = lower_same s;
@@ -58,6 +65,7 @@ grown_same s = record {
   left = refl;
 }
 
+-- numbers that have grown in each of two steps have grown in both together
 pub grown_more : (s t u : DistanceState) → HasGrown s t → HasGrown t u → HasGrown s u
 grown_more s t u h k = record {
   lower = lower_more s t u h.lower k.lower;
@@ -104,6 +112,7 @@ module _ (s : DistanceState) (x : ℕ) (l : x < length s.numbers) where
     | inr e ↦ inr (number_elsewhere y (λ same. e.1 (sym same)))
   ]
 
+  -- numbers have grown after a net without one gets the number of the distance
   pub put_grown : s.distance < s.frames → s.frames ≤ number_of s x → HasGrown s (with_number s x)
   put_grown inside free = record {
     lower = record {
@@ -139,6 +148,7 @@ module _ (s : DistanceState) (x : ℕ) (l : x < length s.numbers) where
         );
   }
 
+  -- numbers are still distances after a net gets the number of the distance
   pub put_distances : AreDistances s → AreDistances (with_number s x)
   put_distances h = record {
     few = h.few;
@@ -159,6 +169,7 @@ module _ (s : DistanceState) (x : ℕ) (l : x < length s.numbers) where
 
 -- ---- one more net that is to get a number
 
+-- numbers have grown after one more net is to get one a frame on
 pub next_grown : (s : DistanceState) (x : ℕ) → HasGrown s (record s { next = s.next ++ x ∷ [] })
 next_grown s x = record {
   lower = record { frames = refl; count = refl; lower = λ y. omega arith };
@@ -170,6 +181,7 @@ next_grown s x = record {
   left = refl;
 }
 
+-- numbers are still distances after one more net is to get one a frame on
 pub next_distances : (s : DistanceState) (x : ℕ) → x < length s.numbers → AreDistances s
     → AreDistances (record s { next = s.next ++ x ∷ [] })
 next_distances s x l h = record {
@@ -332,6 +344,7 @@ all_spread c way s none last h = record {
 
 -- ---- one net less
 
+-- a list contains its last item
 pub last_in : {xs : List ℕ} {x : ℕ} (rest : List ℕ) → xs ≡ rest ++ x ∷ [] → Contains xs x
 last_in {xs} {x} rest is = subst (λ (l : List ℕ). Contains l x) (sym is) (Contains-push rest x)
 
@@ -350,14 +363,17 @@ fewer_left s here next h few later = record {
   next = λ y w. h.next y (later y w);
 }
 
+-- numbers are still distances where fewer nets of this distance are to be followed
 pub here_less : {s : DistanceState} {rest : List ℕ} (gone : List ℕ) → AreDistances s → s.here ≡ rest ++ gone
     → AreDistances (record s { here = rest })
 here_less {s} {rest} gone h is = fewer_left s rest s.next h (front_in rest gone is) (λ y w. w)
 
+-- numbers are still distances where fewer nets are to get one a frame on
 pub next_less : {s : DistanceState} {rest : List ℕ} (gone : List ℕ) → AreDistances s → s.next ≡ rest ++ gone
     → AreDistances (record s { next = rest })
 next_less {s} {rest} gone h is = fewer_left s s.here rest h (λ y w. w) (front_in rest gone is)
 
+-- a net that is to be followed is one of the nets that numbers are kept for
 pub here_inside : {s : DistanceState} {x : ℕ} → AreDistances s → Contains s.here x → x < length s.numbers
 here_inside {s} {x} h w =
     let e = h.here x w in
@@ -379,6 +395,7 @@ pub record AreFirst (n : ℕ) (s t : DistanceState) : Type 0 where
   pub zero : s.distance ≡ 0
   pub frames : t.frames ≡ n
 
+-- numbers put in two steps, where no net had one, are first numbers, of distance 0
 pub first_put : {frames : ℕ} {none s t : DistanceState} (nets : ℕ) → none ≡ fresh nets frames → HasGrown none s
     → HasGrown s t → AreFirst frames s t
 first_put {frames} {none} {s} {t} nets e one two = record {

@@ -32,6 +32,7 @@ pub still_inside : {s t : DistanceState} {count x y : ℕ} → length s.numbers 
 still_inside count grown is known = let more = grown.lower.count in omega (arith, count, more, is, known)
 
 module _ (s : DistanceState) (net : ℕ → ℕ) (when : ℕ → ℕ → Type 0) where
+  -- before the first net is gone through no number is to be put
   pub none_put : HavePut s s net when 0
   none_put = record { grown = grown_same s; put = λ k less is. absurd (omega (arith, less)) }
 

@@ -23,6 +23,7 @@ pub record IsSpreading (c : Netlist) (way : Way) (first s : DistanceState) : Typ
 
 module _ (c : Netlist) (way : Way) (first before s t : DistanceState) (x : ℕ)
     (was : before ≡ record s { here = s.here ++ x ∷ [] }) (grown : HasGrown s t) where
+  -- a search in breadth goes on after one net of its distance is followed
   pub one_followed : number_of s x ≡ s.distance → IsFollowed c way t x → IsSpreading c way first before
       → IsSpreading c way first t
   one_followed at followed h =
@@ -33,6 +34,7 @@ module _ (c : Netlist) (way : Way) (first before s t : DistanceState) (x : ℕ)
         followed = popped_followed c way s t x at grown followed k.followed;
       }
 
+  -- one net that was followed leaves less to do
   pub one_left : left_to_do t < left_to_do before
   one_left =
       let e : left_to_do before ≡ left_to_do (record s { here = s.here ++ x ∷ [] }) = ap left_to_do was in
@@ -46,6 +48,7 @@ pub record IsGoingOn (first s : DistanceState) : Type 0 where
   pub distance : s.distance ≡ first.distance + 1
   pub followed : (c : Netlist) (way : Way) → AreFollowed c way first.distance first → AreFollowed c way first.distance s
 
+-- a search in breadth goes on to the next distance
 pub gone_on : (first s : DistanceState) → s ≡ record first { distance = first.distance + 1 } → IsGoingOn first s
 gone_on first s e = subst (IsGoingOn first) (sym e) (record {
   lower = record { frames = refl; count = refl; lower = λ x. omega arith };
@@ -55,6 +58,7 @@ gone_on first s e = subst (IsGoingOn first) (sym e) (record {
 
 module _ (first before s t : DistanceState) (x : ℕ) (was : before ≡ record s { next = s.next ++ x ∷ [] })
     (grown : HasGrown s t) where
+  -- a search in breadth goes on after one net a frame on has its number
   pub one_got : number_of t x ≤ t.distance → IsGoingOn first before → IsGoingOn first t
   one_got put h =
       let k : IsGoingOn first (record s { next = s.next ++ x ∷ [] }) = subst (IsGoingOn first) was h in
@@ -64,6 +68,7 @@ module _ (first before s t : DistanceState) (x : ℕ) (was : before ≡ record s
         followed = λ c way f. next_followed c way first.distance s t x k.distance grown put (k.followed c way f);
       }
 
+  -- one net that has its number leaves fewer nets that are to get one a frame on
   pub one_less : t.next ≡ s.next → length t.next < length before.next
   one_less same =
       let e = ap (λ (d : DistanceState). length d.next) was in

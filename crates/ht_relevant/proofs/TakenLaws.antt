@@ -17,6 +17,7 @@ module _ (p : FramePlanState) (ranked : AreRanked p.circuit (length p.circuit.df
   gate_offset l high = ap (λ (b : Bool). cond b (length p.ranks + get_or p.ranks l 0) (get_or p.ranks l 0))
       (least_false l (length p.circuit.dffs) high)
 
+  -- the offset of a flip-flop is its rank after all items of a frame
   pub dff_offset : (l : ℕ) → l < length p.circuit.dffs
       → reader_offset p.circuit p.ranks l ≡ frame_items p.circuit + get_or p.ranks l 0
   dff_offset l low =

@@ -21,6 +21,7 @@ module _ (g : Guide) (start : Point) (now : Route) (p : SearchProgress) (w : IsW
         let e = t.1 in cc;
   }
 
+  -- a search that hasn't found what it looks for and whose budget has no room for one more token is spent
   pub spends : (¬ IsFound g.judge now.here.node) → p.left < unit → SpendsAt g budget unit p.tokens.items now.here.node
   spends asks few = record {
     walk = is_open;

@@ -21,6 +21,7 @@ use Rattle.ht_search.proofs.RouteLaws.{back_moved, route_same}
 use Rattle.ht_search.proofs.LegalLaws.{may_two, may_three}
 use Rattle.ht_search.proofs.WaitLaws.{IsNext, top_is, start_stands, two_stack, three_stack, before_stack, next_is, last_is}
 
+-- a search with one more token and a unit of the budget less has paid for the token
 pub paid : (unit : ℕ) (old new : SearchProgress) (t : Token) → new.tokens.items ≡ old.tokens.items ++ t ∷ []
     → new.left + unit ≡ old.left → IsPaid unit old new
 paid unit old new t longer left = record { tokens = ap length longer ∙ length_push old.tokens.items t; left = left }
@@ -30,6 +31,7 @@ module _ (g : Guide) (start : Point) (now : Route) (p : SearchProgress) (w : IsW
   abbrev pub nodes : List Node
   nodes = stack_after root_stack p.tokens.items
 
+  -- the point where a search began stands on its route
   pub starts : Stands now start
   starts = start_stands g.judge start now (reverse p.untried.items) nodes w.stack
 
@@ -69,6 +71,7 @@ module _ (g : Guide) (start : Point) (now : Route) (p : SearchProgress) (w : IsW
     paid = paid unit p q t longer left;
   }
 
+  -- a search goes on that decides the chosen variable to a bit, writes `Two` and puts the other bit off
   pub goes_two : (unit : ℕ) (next : Route) (q : SearchProgress) (at : Point) (var : ℕ) (value v : Tern) (b : Bool)
       → g.choice now.here.node ≡ choice.Two var b → Fits g.judge now.here.node (token.Two var b)
       → at ≡ now.here.point → value ≡ tern_of (not b) → v ≡ tern_of b → MovesOn now next (decide now.here.node var v)
@@ -83,6 +86,7 @@ module _ (g : Guide) (start : Point) (now : Route) (p : SearchProgress) (w : IsW
       (two_stack g.judge start now next (reverse p.untried.items) at var value b nodes w.stack moves is other may)
       (back_moved now next (decide now.here.node var (tern_of b)) start moves starts)
 
+  -- a search goes on that decides the chosen variable to 0, writes `Three` and puts 1 and X off
   pub goes_three : (unit : ℕ) (next : Route) (q : SearchProgress) (at : Point) (var : ℕ)
       → g.choice now.here.node ≡ choice.Three var → Fits g.judge now.here.node (token.Three var)
       → at ≡ now.here.point → MovesOn now next (decide now.here.node var Zero)
@@ -96,6 +100,7 @@ module _ (g : Guide) (start : Point) (now : Route) (p : SearchProgress) (w : IsW
       (may_three g.judge now.here.node var One fit) (may_three g.judge now.here.node var Unk fit))
       (back_moved now next (decide now.here.node var Zero) start m starts)
 
+  -- a search goes on that moves to the window under a sure node and writes `Before`
   pub goes_before : (unit : ℕ) (next : Route) (q : SearchProgress) → g.judge.status now.here.node ≡ status.Sure
       → g.judge.before now.here.node ≡ true → MovesOn now next (under now.here.node)
       → q.tokens.items ≡ p.tokens.items ++ token.Before ∷ [] → q.left + unit ≡ p.left → q.untried ≡ p.untried
@@ -117,10 +122,12 @@ module _ (g : Guide) (start : Point) (now : Route) (p : SearchProgress) (w : IsW
     at_next : (at : Route) → stops at ≡ back_to (stops now) u.point → at ≡ waits_next.at
     at_next at back = route_same at waits_next.at (back ∙ waits_next.back)
 
+    -- the value that waits next may be decided once the route is back at its point
     pub next_may : (at : Route) → stops at ≡ back_to (stops now) u.point → MayDecide g.judge at.here.node u.var u.value
     next_may at back =
         subst (λ (t : Route). MayDecide g.judge t.here.node u.var u.value) (sym (at_next at back)) waits_next.may
 
+    -- a search goes on that writes `Dead`, goes back to the point of the value that waits next and decides it there
     pub goes_back : (unit : ℕ) (at next : Route) (q : SearchProgress) → g.judge.status now.here.node ≡ status.Dead
         → stops at ≡ back_to (stops now) u.point → MovesOn at next (decide at.here.node u.var u.value)
         → q.tokens.items ≡ p.tokens.items ++ token.Dead ∷ [] → q.left + unit ≡ p.left → q.untried.items ≡ us

@@ -8,6 +8,7 @@ use Rattle.ht_search.specs.Routes.{stops, is_same_point, back_to, MovesOn}
 use Rattle.ht_search.specs.WindowSteps.{Step, Decides, Enters, node_of, windows_entered, last_decided, point_of, route_of}
 use Rattle.ht_search.proofs.RouteLaws.{back_here}
 
+-- points of different levels or marks aren't the same
 pub apart : (p q : Point) → (p.level ≢ q.level) ⊎ (p.mark ≢ q.mark) → is_same_point p q ≡ false
 apart p q h = elim (eqb_tells p.level q.level) [
   | inl a ↦ elim h [
@@ -42,6 +43,7 @@ later_fresh p [] h = rw (earlier_apart p (point_of []) h) refl
 later_fresh p (s ∷ older) h =
     rw (earlier_apart p (point_of (s ∷ older)) h) (later_fresh p older (later_step p s older h))
 
+-- one more decision moves a route on to the node with that decision
 pub decides_moves : (steps : List Step) (a : Assign3)
     → MovesOn (route_of steps) (route_of (Decides a ∷ steps)) (decide (node_of steps) a.var a.value)
 decides_moves steps a = record {
@@ -50,6 +52,7 @@ decides_moves steps a = record {
   fresh = later_fresh (point_of (Decides a ∷ steps)) steps (inr (refl, omega arith));
 }
 
+-- one more window moves a route on to the first node of that window
 pub enters_moves : (steps : List Step)
     → MovesOn (route_of steps) (route_of (Enters ∷ steps)) (under (node_of steps))
 enters_moves steps = record {

@@ -5,6 +5,7 @@ use Rattle.ht_tree.specs.Walks.{Node}
 use Rattle.ht_search.specs.declared.problem.Point.{Point}
 use Rattle.ht_search.specs.Routes.{Stop, Route, stops, is_same_point, back_to, Stands, MovesOn}
 
+-- points with the same level and the same mark are the same
 pub point_by : (level level' mark mark' : ℕ) → level ≡ level' → mark ≡ mark'
     → (let p : Point = record { level = level; mark = mark } in
     let q : Point = record { level = level'; mark = mark' } in p ≡ q)
@@ -12,6 +13,7 @@ point_by level level' mark mark' e f =
     ap (λ (k : ℕ). let r : Point = record { level = k; mark = mark } in r) e
     ∙ ap (λ (k : ℕ). let r : Point = record { level = level'; mark = k } in r) f
 
+-- points that the test finds to be one are equal
 pub same_point : (p q : Point) → is_same_point p q ≡ true → p ≡ q
 same_point p q h = elim (eqb_tells p.level q.level) [
   | inl a ↦ elim (eqb_tells p.mark q.mark) [
@@ -24,6 +26,7 @@ same_point p q h = elim (eqb_tells p.level q.level) [
 itself : (n : ℕ) → eqb n n ≡ true
 itself n = elim (eqb_tells n n) [ inl a ↦ a.0 | inr a ↦ absurd (a.1 refl) ]
 
+-- going back to the point now leaves the stops as they are
 pub back_here : (t : Route) → back_to (stops t) t.here.point ≡ stops t
 back_here t = rw (itself t.here.point.level, itself t.here.point.mark) refl
 
@@ -31,6 +34,7 @@ back_here t = rw (itself t.here.point.level, itself t.here.point.mark) refl
 pub stands_by : (t at : Route) (p : Point) → back_to (stops t) p ≡ stops at → Stands t p
 stands_by t at p e none = cc
 
+-- routes with the same stops are the same
 pub route_same : (t u : Route) → stops t ≡ stops u → t ≡ u
 route_same t u e =
     let x : t.here ≡ u.here = cc in
@@ -44,11 +48,13 @@ back_by : (b : Bool) (x : Stop) (xs : List Stop) (p : Point) → (b ≡ true →
 back_by true x xs p same fresh stands = absurd (stands (sym (ap (back_to xs) (same refl)) ∙ fresh))
 back_by false x xs p same fresh stands = refl
 
+-- after a step, going back to a point that stood before it leads to the same stops
 pub back_moved : (now next : Route) (n : Node) (p : Point) → MovesOn now next n → Stands now p → back_to (stops next) p
     ≡ back_to (stops now) p
 back_moved now next n p m stands =
     ap (λ (xs : List Stop). back_to (next.here ∷ xs) p) m.earlier
     ∙ back_by (is_same_point next.here.point p) next.here (stops now) p (same_point next.here.point p) m.fresh stands
 
+-- a point that stands does so after a step too
 pub stands_moved : (now next : Route) (n : Node) (p : Point) → MovesOn now next n → Stands now p → Stands next p
 stands_moved now next n p m stands none = stands (sym (back_moved now next n p m stands) ∙ none)

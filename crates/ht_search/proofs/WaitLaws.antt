@@ -49,11 +49,13 @@ pub top_is : (j : Judge) (start : Point) (now : Route) (us : List Untried) (stac
 top_is j start now us [] h = absurd h
 top_is j start now us (n ∷ rest) h = (rest, ap (λ (x : Node). x ∷ rest) h.0)
 
+-- the node now is on top of a search's stack
 pub is_on_top : (j : Judge) (start : Point) (now : Route) (us : List Untried) (stack : List Node)
     → IsStack j start now us stack → IsOnTop now.here.node stack
 is_on_top j start now us [] h = absurd h
 is_on_top j start now us (n ∷ rest) h = sym h.0
 
+-- the point where a search began stands on the route of its stack
 pub start_stands : (j : Judge) (start : Point) (now : Route) (us : List Untried) (stack : List Node)
     → IsStack j start now us stack → Stands now start
 start_stands j start now us [] h = absurd h
@@ -61,6 +63,7 @@ start_stands j start now us (n ∷ rest) h = h.1
 
 -- the stack after each token
 module _ (j : Judge) (start : Point) (now next : Route) (us : List Untried) where
+  -- after `Two` the decided node is on top of the stack, and the other bit is the next value that waits
   pub two_stack : (at : Point) (var : ℕ) (value : Tern) (b : Bool) (stack : List Node) → IsStack j start now us stack
       → MovesOn now next (decide now.here.node var (tern_of b)) → at ≡ now.here.point → value ≡ tern_of (not b)
       → MayDecide j now.here.node var value
@@ -74,6 +77,7 @@ module _ (j : Judge) (start : Point) (now next : Route) (us : List Untried) wher
         (now, one_moved j start now next x m h.1 now _ _ w, h.2),
       )
 
+  -- after `Three` the node with 0 is on top of the stack, and 1 and X are the next values that wait
   pub three_stack : (at : Point) (var : ℕ) (stack : List Node) → IsStack j start now us stack
       → MovesOn now next (decide now.here.node var Zero) → at ≡ now.here.point
       → MayDecide j now.here.node var One → MayDecide j now.here.node var Unk
@@ -90,6 +94,7 @@ module _ (j : Judge) (start : Point) (now next : Route) (us : List Untried) wher
         (now, one_moved j start now next x m h.1 now _ _ one, (now, unknown, h.2)),
       )
 
+  -- after `Before` the first node of the window under the node is on top of the stack, and the same values wait
   pub before_stack : (stack : List Node) → IsStack j start now us stack → MovesOn now next (under now.here.node)
       → IsStack j start next us (next_stack stack token.Before)
   before_stack [] h m = absurd h
@@ -109,6 +114,7 @@ pub record IsNext (j : Judge) (start : Point) (now : Route) (u : Untried) (us : 
   pub may : MayDecide j at.here.node u.var u.value
   pub stack : (next : Route) → MovesOn at next (decide at.here.node u.var u.value) → IsStack j start next us nodes
 
+-- after `Dead` the stack goes on from the value that waits next, decided at its stop
 pub next_is : (j : Judge) (start : Point) (now : Route) (u : Untried) (us : List Untried) (stack : List Node)
     → IsStack j start now (u ∷ us) stack → IsNext j start now u us (next_stack stack token.Dead)
 next_is j start now u us [] h = absurd h

@@ -20,6 +20,7 @@ back_skips (a ∷ xs) t p ne =
     let l = windows_decided xs (Enters ∷ t) in
     rw (apart (point_of (map Decides (a ∷ xs) ++ Enters ∷ t)) p (inl (λ e. ne (sym e ∙ l)))) (back_skips xs t p ne)
 
+-- going back to a point above the last window leads to the same stops as from the window above it
 pub window_leaves : (above all : List (List Assign3)) (last ds : List Assign3) (p : Point) → all ≡ above ++ last ∷ []
     → p.level < length all
     → back_to (stops (route_of (steps_under all ds))) p ≡ back_to (stops (route_of (steps_under above last))) p
@@ -86,6 +87,7 @@ module _ (above : List (List Assign3)) (ds : List Assign3) (p : Point) (h : Stan
       let c = none_above (reverse above) in
       omega (arith, a, b, c)
 
+  -- the mark of a point that stands in the last window is at most the number of decisions there
   pub stands_mark : p.mark ≤ length ds
   stands_mark =
       let k = ap length found.whole in

@@ -27,6 +27,7 @@ window_decides above ds all a is =
     subst (λ (t : List Step). MovesOn (route_of steps) (route_of t) (decide (node_of steps) a.var a.value))
     (sym (ap (steps_under above) is ∙ under_push above ds a)) (decides_moves steps a)
 
+-- one more window, where nothing is decided yet, moves the route on to the node under the one before
 pub window_enters : (above all : List (List Assign3)) (ds now : List Assign3) → all ≡ above ++ ds ∷ [] → now ≡ []
     → MovesOn (route_of (steps_under above ds)) (route_of (steps_under all now))
     (under (node_of (steps_under above ds)))
@@ -42,11 +43,13 @@ pub windows_decided : (xs : List Assign3) (t : List Step) → windows_entered (m
 windows_decided [] t = refl
 windows_decided (a ∷ xs) t = windows_decided xs t
 
+-- n more decisions are n more since the last window was entered
 pub decisions_decided : (xs : List Assign3) (t : List Step)
     → last_decided (map Decides xs ++ t) ≡ length xs + last_decided t
 decisions_decided [] t = omega arith
 decisions_decided (a ∷ xs) t = let h = decisions_decided xs t in omega (arith, h)
 
+-- the steps through the windows above enter as many windows as there are
 pub entered_above : (above : List (List Assign3)) → windows_entered (steps_above above) ≡ length above
 entered_above [] = refl
 entered_above (ds ∷ above) =
@@ -54,10 +57,12 @@ entered_above (ds ∷ above) =
     let k = entered_above above in
     omega (arith, h, k)
 
+-- after the steps through the windows above, nothing is decided in the last window yet
 pub none_above : (above : List (List Assign3)) → last_decided (steps_above above) ≡ 0
 none_above [] = refl
 none_above (ds ∷ above) = refl
 
+-- the steps of a problem enter as many windows as there are above its last one
 pub entered_under : (above : List (List Assign3)) (ds : List Assign3)
     → windows_entered (steps_under above ds) ≡ length above
 entered_under above ds =
@@ -71,6 +76,7 @@ decided_under above ds =
     let c = length-reverse ds in
     omega (arith, a, b, c)
 
+-- the point after the steps of a problem counts the windows above the last one and the decisions in that one
 pub window_point : (above : List (List Assign3)) (ds : List Assign3) (level mark : ℕ) → level ≡ length above
     → mark ≡ length ds → record { level = level; mark = mark } ≡ point_of (steps_under above ds)
 window_point above ds level mark e f =
@@ -110,6 +116,7 @@ path_below : (above : List (List Assign3)) (more : List Assign3)
 path_below [] more = refl
 path_below (ds ∷ above) more = last_window (node_of (steps_of ds ++ steps_above above)) more
 
+-- the path within the last window is the decisions of that window
 pub window_path : (above : List (List Assign3)) (ds : List Assign3) → path_of (node_of (steps_under above ds)) ≡ ds
 window_path above ds =
     ap path_of (node_decided (reverse ds) (steps_above (reverse above)))

@@ -41,6 +41,7 @@ pub record Ran (c : Netlist) (fault : Option Fault) (start : List Tern) (list : 
   pub row : m.outputs ≡ get_or (outputs_from c fault start list) t []
   pub next : m ≡ after_first c fault start list (t + 1)
 
+-- a machine after the first t vectors that steps through vector t shows row t of its run
 pub ran_more : (c : Netlist) (fault : Option Fault) (start : List Tern) (list : List (List Bool)) (t : ℕ)
     (m m' : MachineState Tern) (v : List Bool) → t < length list → m ≡ after_first c fault start list t
     → v ≡ get_or list t [] → m' ≡ stepped tern_rules m (terns_of v) → Ran c fault start list t m'
@@ -63,6 +64,7 @@ ran_more c fault start list t m m' v inside is at step =
 abbrev pub of_rows : ℕ → List (List Tern) → ObservationView
 of_rows width rows = record { width = width; rows = rows }
 
+-- the first t rows with row t added are the first t + 1 rows
 pub shown_more : (width t : ℕ) (rows : List (List Tern)) (shown more : ObservationView) (row : List Tern)
     → t < length rows → shown ≡ of_rows width (take t rows) → more ≡ of_rows shown.width (shown.rows ++ row ∷ [])
     → row ≡ get_or rows t [] → more ≡ of_rows width (take (t + 1) rows)

@@ -31,6 +31,7 @@ name_is_some name e = grind (arith, nat_tests)
 name_bytes : (name : Name) → is_name name ≡ true → list_all is_name_byte name ≡ true
 name_bytes name e = grind (arith, nat_tests)
 
+-- a name at the front of a text is its first token, if no byte of a word comes next
 pub name_then : (name : Name) (rest : List ℕ) → is_name name ≡ true → BeginsNoWord rest → tokens_of (name ++ rest)
     ≡ word_token name ∷ tokens_of rest
 name_then [] rest is stops = absurd (omega (arith, name_is_some [] is))
@@ -39,9 +40,11 @@ name_then (byte ∷ run) rest is stops =
     tokens_word byte run rest
     (λ k lt. name_byte_is_word (get_or name k 0) (all_at is_name_byte name (name_bytes name is) k lt)) stops
 
+-- the first of some names of the format is one
 pub all_head : (name : Name) (names : List Name) → list_all is_name (name ∷ names) ≡ true → is_name name ≡ true
 all_head name names e = (and_parts (is_name name) (list_all is_name names) e).0
 
+-- names of the format go on to be so without the first
 pub all_tail : (name : Name) (names : List Name) → list_all is_name (name ∷ names) ≡ true
     → list_all is_name names ≡ true
 all_tail name names e = (and_parts (is_name name) (list_all is_name names) e).1

@@ -38,6 +38,7 @@ arguments_print (name ∷ next ∷ more) e =
     both name (codes ", " ++ arguments_text (next ∷ more)) (name_prints name parts.0)
     (both (codes ", ") (arguments_text (next ∷ more)) refl (arguments_print (next ∷ more) parts.1))
 
+-- the normal text of what a line can state has only printable bytes and blanks, so it is one line
 pub normal_is_one_line : NormalTextIsOneLine
 normal_is_one_line blank_line can = refl
 normal_is_one_line (input_line name) can = both (codes "INPUT(" ++ name) (codes ")")

@@ -64,6 +64,7 @@ reading_sound : (form : Option LineForm) → IsSound (tokens_reading form)
 reading_sound None = tt
 reading_sound (Some form) = form_sound form
 
+-- what a line states has names of the format, and a gate in it has a count of arguments that it may have
 pub stated_sound : StatedIsSound
 stated_sound line statement e = subst IsSound e (reading_sound (form_of (tokens_of line)))
 
@@ -73,5 +74,6 @@ count_is_arity kind n e =
     let parts = and_parts (has_arity kind n) (leb n max_arguments) e in
     (parts.0, leb-true n max_arguments parts.1)
 
+-- an arity of a kind, within the limit, is a count that a gate of that kind may have
 pub arity_is_count : (kind : Kind) (n : ℕ) → HasArity kind n → n ≤ max_arguments → has_count (gate_of kind) n ≡ true
 arity_is_count kind n arity few = and_from (has_arity kind n) (leb n max_arguments) arity (le-leb n max_arguments few)

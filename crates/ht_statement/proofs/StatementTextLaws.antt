@@ -102,6 +102,7 @@ gate_text : (out : Name) (kind : Kind) (args : List Name) → statement_text (ga
     ∷ (kind_text kind ++ 40 ∷ (arguments_text args ++ 41 ∷ []))
 gate_text out kind args = simp append_assoc
 
+-- the normal text of what a line can state is a line that states it
 pub normal_reads : NormalTextIsRead
 normal_reads blank_line can = refl
 normal_reads (input_line name) can =

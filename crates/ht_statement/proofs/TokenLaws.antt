@@ -8,11 +8,13 @@ use Rattle.ht_statement.specs.Word.{is_word_byte}
 
 -- ---- comments
 
+-- a first byte that begins no comment stays, before the rest without its comment
 pub comment_none : (byte : ℕ) (text : List ℕ) → begins_comment byte ≡ false → without_comment (byte ∷ text) ≡ byte
     ∷ without_comment text
 comment_none byte text e =
     take_while-cons (λ b. not (begins_comment b)) byte text ∙ ap (λ r. cond (not r) (byte ∷ without_comment text) []) e
 
+-- a text that begins with a comment is nothing else
 pub comment_all : (byte : ℕ) (text : List ℕ) → begins_comment byte ≡ true → without_comment (byte ∷ text) ≡ []
 comment_all byte text e =
     take_while-cons (λ b. not (begins_comment b)) byte text ∙ ap (λ r. cond (not r) (byte ∷ without_comment text) []) e
@@ -46,12 +48,14 @@ abbrev after_mark : List ℕ → ℕ → List ℕ → Option LineToken → List 
 after_mark word byte text mark = option_map_or (λ m. ended word ++ m ∷ tokens_after [] text) mark
     (tokens_after (word ++ byte ∷ []) text)
 
+-- a blank ends the word before it, and the tokens of the text after it follow
 pub blank_ends : (word : List ℕ) (byte : ℕ) (text : List ℕ) → is_blank byte ≡ true → rest_tokens word (byte ∷ text)
     ≡ ended word ++ tokens_of text
 blank_ends word byte text e =
     ap (tokens_after word) (comment_none byte text (blank_is_no_comment byte e))
     ∙ ap (λ r. cond r (ended word ++ tokens_of text) (after_mark word byte (without_comment text) (mark_of byte))) e
 
+-- a mark ends the word before it and is a token, and those of the text after it follow
 pub mark_ends : (word : List ℕ) (byte : ℕ) (text : List ℕ) (mark : LineToken) → mark_of byte ≡ Some mark
     → rest_tokens word (byte ∷ text) ≡ ended word ++ mark ∷ tokens_of text
 mark_ends word byte text mark e =
@@ -60,10 +64,12 @@ mark_ends word byte text mark e =
     (mark_is_no_blank byte mark e)
     ∙ ap (after_mark word byte (without_comment text)) e
 
+-- the begin of a comment ends the word before it, and no token follows
 pub comment_ends : (word : List ℕ) (byte : ℕ) (text : List ℕ) → begins_comment byte ≡ true
     → rest_tokens word (byte ∷ text) ≡ ended word
 comment_ends word byte text e = ap (tokens_after word) (comment_all byte text e)
 
+-- a byte of a word belongs to the word before it
 pub word_goes_on : (word : List ℕ) (byte : ℕ) (text : List ℕ) → is_word_byte byte ≡ true
     → rest_tokens word (byte ∷ text) ≡ rest_tokens (word ++ byte ∷ []) text
 word_goes_on word byte text e =
@@ -74,9 +80,11 @@ word_goes_on word byte text e =
 
 -- ---- with no word before it
 
+-- a blank at the front of a text adds no token
 pub tokens_blank : (byte : ℕ) (text : List ℕ) → is_blank byte ≡ true → tokens_of (byte ∷ text) ≡ tokens_of text
 tokens_blank byte text e = blank_ends [] byte text e
 
+-- a mark at the front of a text is its first token
 pub tokens_mark : (byte : ℕ) (text : List ℕ) (mark : LineToken) → mark_of byte ≡ Some mark
     → tokens_of (byte ∷ text) ≡ mark ∷ tokens_of text
 tokens_mark byte text mark e = mark_ends [] byte text mark e

@@ -43,6 +43,7 @@ word_ends word (byte ∷ text) stops = ending word byte text (ends byte stops)
 abbrev pub AreWordBytes : List ℕ → Type 0
 AreWordBytes text = (k : ℕ) → k < length text → is_word_byte (get_or text k 0) ≡ true
 
+-- a run of a word's bytes belongs to the word before it, which ends where no byte of a word comes next
 pub run_ends : (word run rest : List ℕ) → AreWordBytes run → BeginsNoWord rest → rest_tokens word (run ++ rest)
     ≡ ended (word ++ run) ++ tokens_of rest
 run_ends word [] rest are stops = word_ends word rest stops ∙ ap (λ w. ended w ++ tokens_of rest)
@@ -54,6 +55,7 @@ run_ends word (byte ∷ run) rest are stops =
 
 -- ---- the word that a text begins with
 
+-- a text that begins with a word has it as its first token
 pub tokens_word : (byte : ℕ) (run rest : List ℕ) → AreWordBytes (byte ∷ run) → BeginsNoWord rest
     → tokens_of (byte ∷ run ++ rest) ≡ word_token (byte ∷ run) ∷ tokens_of rest
 tokens_word byte run rest are stops = run_ends [] (byte ∷ run) rest are stops
@@ -62,6 +64,7 @@ is_word : (byte : ℕ) → begins_comment byte ≡ false → is_blank byte ≡ f
     ≡ true
 is_word byte no_hash no_blank no_mark = grind (arith, nat_tests)
 
+-- the word split from a text is its first token, if the text begins with no blank, mark or comment
 pub split_is_word : (byte : ℕ) (after text word rest : List ℕ) → text ≡ byte ∷ after → begins_comment byte ≡ false
     → is_blank byte ≡ false → mark_of byte ≡ None
     → IsWordSplit text word rest → tokens_of text ≡ word_token word ∷ tokens_of rest
@@ -76,6 +79,7 @@ split_is_word byte after text [] (other ∷ rest) e no_hash no_blank no_mark spl
 split_is_word byte after text (first ∷ run) rest e no_hash no_blank no_mark split =
     ap tokens_of split.whole ∙ tokens_word first run rest split.bytes split.longest
 
+-- the first token of a text that isn't empty and begins with no blank, mark or comment is the word split from it
 pub first_word : (text word rest : List ℕ) → 1 ≤ length text → begins_comment (get_or text 0 0) ≡ false
     → BeginsNoBlank text → mark_of (get_or text 0 0) ≡ None
     → IsWordSplit text word rest → tokens_of text ≡ word_token word ∷ tokens_of rest
@@ -83,6 +87,7 @@ first_word [] word rest some no_hash no_blank no_mark split = absurd (omega arit
 first_word (byte ∷ after) word rest some no_hash no_blank no_mark split =
     split_is_word byte after (byte ∷ after) word rest refl no_hash no_blank no_mark split
 
+-- a byte for which no token of a mark was found is no mark
 pub no_mark : (found : Option Borrowed) (mark : Option LineToken) → option_map token_of found ≡ mark
     → found ≡ None → mark ≡ None
 no_mark found mark e none = sym e ∙ ap (option_map token_of) none

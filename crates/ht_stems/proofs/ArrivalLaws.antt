@@ -22,16 +22,19 @@ pub good_stem : (x : ℕ) (v : Tern) → (tern_rules None).stem x v ≡ v
 unfolding forced
 good_stem x v = refl
 
+-- a data pin of the good machine leaves the value that it carries
 pub good_data_pin : (j : ℕ) (v : Tern) → (tern_rules None).data_pin j v ≡ v
 unfolding forced
 good_data_pin j v = refl
 
 module _ (c : Netlist) (circuit : IsCircuit c) (vector latches : List Tern) where
+  -- a net that is forced to its good value changes nothing in a frame
   pub own_shows : (x : ℕ) (v : Tern) → v ≡ net_value c (tern_rules None) vector latches x
       → ShowSame c (net_forced (tern_rules None) x v) (tern_rules None) vector latches
   own_shows x v own = show_same c circuit (net_forced (tern_rules None) x v) (tern_rules None) vector latches
       (λ i w. refl) (λ y inside. sym (own_same c circuit vector latches (tern_rules None) x v own y inside))
 
+  -- a net without a load changes nothing in a frame, whatever it is forced to
   pub unread_shows : (x : ℕ) (v : Tern) → HasLoads c x NoLoad
       → ShowSame c (net_forced (tern_rules None) x v) (tern_rules None) vector latches
   unread_shows x v none =
@@ -49,6 +52,7 @@ module _ (c : Netlist) (circuit : IsCircuit c) (vector latches : List Tern) wher
   forced_there x v nets j known is = ap (net_value c (net_forced (tern_rules None) x v) vector latches) is
       ∙ forced_value c circuit vector latches (tern_rules None) x v known
 
+  -- a net whose only load is a data pin, forced to a value, gives that latch the value and changes nothing else
   pub latch_shows : (x j : ℕ) (v : Tern) → x < net_count c → HasLoads c x (OneDataPin j)
       → ShowsArrival c (net_forced (tern_rules None) x v) vector latches (AtLatch j v)
   latch_shows x j v known loads =
@@ -61,6 +65,7 @@ module _ (c : Netlist) (circuit : IsCircuit c) (vector latches : List Tern) wher
             (λ k l ne. same _ (circuit.data_known k l) ((data_pin_alone c x j loads).only k l ne));
       }
 
+  -- a net whose only load is an output, forced to a value, shows it there and changes nothing else
   pub output_shows : (x o : ℕ) (v : Tern) → x < net_count c → HasLoads c x (OneOutput o)
       → ShowsArrival c (net_forced (tern_rules None) x v) vector latches (AtOutput o v)
   output_shows x o v known loads =
@@ -74,6 +79,7 @@ module _ (c : Netlist) (circuit : IsCircuit c) (vector latches : List Tern) wher
       }
 
   module _ (good : ℕ → Tern) (are : AreGoodValues c vector latches good) where
+    -- to force a net that only one pin of a gate reads is to force the gate's net to what the gate then gives
     pub through_shows : (x g : ℕ) (v : Tern) → x < net_count c → HasLoads c x (OneGate g)
         → ShowSame c (net_forced (tern_rules None) x v)
         (net_forced (tern_rules None) (first_gate_net c + g)
@@ -98,6 +104,7 @@ module _ (c : Netlist) (circuit : IsCircuit c) (vector latches : List Tern) wher
               (λ j l. same _ (circuit.data_known j l) (gate_not_data c x g loads j l));
         }
 
+    -- a frame with a net forced shows and takes what is left where the net's effect ends
     pub arrival_shows : (x : ℕ) (v : Tern) (a : Arrival) → Arrives c good x v a → x < net_count c
         → ShowsArrival c (net_forced (tern_rules None) x v) vector latches a
     arrival_shows _ _ _ (unchanged x v own) known =

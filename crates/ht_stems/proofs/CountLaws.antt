@@ -105,6 +105,7 @@ gate_counted c table g inside counted x =
     let P : ℕ → Type 0 = λ m. CountsAs c x m (get_or table x NoLoad) in
     subst P (sym (sum_by_more (λ (h : Gate). times x h.args) c.gates g no_gate inside)) (counted x)
 
+-- a table that counts the pins of the first k gates counts those of all, where there are no more than k
 pub gates_counted : (c : Netlist) (table : List NetLoads) (k : ℕ) → length c.gates ≤ k
     → ((x : ℕ) → CountsAs c x (sum_by (λ (h : Gate). times x h.args) (take k c.gates)) (get_or table x NoLoad))
     → (x : ℕ) → CountsAs c x (sum_by (λ (h : Gate). times x h.args) c.gates) (get_or table x NoLoad)

@@ -39,6 +39,7 @@ stem_rules : (x : NetId) (bit : Bool) → tern_rules (Some (stem_fault x bit))
 unfolding forced
 stem_rules x bit = refl
 
+-- a frame with a stuck stem shows and takes the same as one with the stem's net forced to the stuck value
 pub stem_shows : (c : Netlist) (vector latches : List Tern) (x : NetId) (bit : Bool)
     → ShowSame c (tern_rules (Some (stem_fault x bit))) (net_forced (tern_rules None) x.0 (tern_of bit)) vector latches
 stem_shows c vector latches x bit = record {
@@ -172,6 +173,7 @@ module _ (c : Netlist) (circuit : IsCircuit c) (vector latches : List Tern) wher
     | inr p ↦ absurd (p.1 refl)
   ]
 
+  -- a stuck data pin changes only what its flip-flop takes, which is the stuck value
   pub data_shows : (j : ℕ) (bit : Bool) → j < length c.dffs
       → ShowsArrival c (tern_rules (Some (data_fault j bit))) vector latches (AtLatch j (tern_of bit))
   data_shows j bit known = record {
@@ -261,6 +263,7 @@ module _ (c : Netlist) (circuit : IsCircuit c) (vector latches : List Tern) wher
         let same = own_shows c circuit vector latches m _ own in
         record { outputs = pin.outputs ∙ same.outputs; next = pin.next ∙ same.next }
 
+    -- a fault whose line carries the stuck value already changes nothing in a frame
     pub stuck_shows : (fault : Fault) → HasLine c fault.site → IsStuckAlready c good fault
         → ShowSame c (tern_rules (Some fault)) (tern_rules None) vector latches
     stuck_shows fault = stuck_by_site fault.site fault.value
@@ -280,6 +283,7 @@ module _ (c : Netlist) (circuit : IsCircuit c) (vector latches : List Tern) wher
         let P : Arrival → Type 0 = ShowsArrival c (tern_rules (Some (data_fault j bit))) vector latches in
         subst P (sym arrives) (data_shows j bit line)
 
+    -- a frame with a fault shows and takes what is left where the fault's effect ends
     pub fault_shows : (fault : Fault) (a : Arrival) → HasLine c fault.site → FaultArrives c good fault a
         → ShowsArrival c (tern_rules (Some fault)) vector latches a
     fault_shows fault a line (inl p) =
@@ -288,6 +292,7 @@ module _ (c : Netlist) (circuit : IsCircuit c) (vector latches : List Tern) wher
         subst P (sym p.1) (record { outputs = same.outputs; next = same.next })
     fault_shows fault a line (inr p) = site_shows fault.site fault.value a line p.1
 
+    -- two faults whose effects end in the same way show the same in a frame, and flip-flops take the same
     pub together_show : (fault other : Fault) (a : Arrival) → HasLine c fault.site → HasLine c other.site
         → FaultArrives c good fault a → FaultArrives c good other a
         → ShowSame c (tern_rules (Some fault)) (tern_rules (Some other)) vector latches

@@ -8,7 +8,7 @@ use Rattle.ht_net.specs.Netlist.{Netlist, first_gate_net, net_count, gate_at, ar
 use Rattle.ht_net.specs.Frame.{Rules, pin_values, gate_output, driver_value, net_value_over, net_value}
 use Rattle.ht_net.proofs.Depth.{IsDepth}
 use Rattle.ht_net.proofs.DepthLaws.{circuit_depth}
-use Rattle.ht_net.proofs.FrameLaws.{driven_gate, gate_same, value_same, frame_settled, settled_is_frame}
+use Rattle.ht_net.proofs.FrameLaws.{arg_lower, driven_gate, gate_same, value_same, frame_settled, settled_is_frame}
 use Rattle.ht_stems.specs.ForcedNets.{net_forced, with_net_value}
 use Rattle.ht_stems.proofs.ReadLaws.{IsUnreadByGates, IsReadByGate}
 
@@ -16,6 +16,7 @@ use Rattle.ht_stems.proofs.ReadLaws.{IsUnreadByGates, IsReadByGate}
 pub with_here : {V : Type 0} → (e : ℕ → V) (x : ℕ) (v : V) (y : ℕ) → y ≡ x → with_net_value e x v y ≡ v
 with_here e x v y is = ap (λ b. cond b v (e y)) (eq-eqb y x is)
 
+-- where one net has another value, each other net keeps its own
 pub with_other : {V : Type 0} → (e : ℕ → V) (x : ℕ) (v : V) (y : ℕ) → y ≢ x → with_net_value e x v y ≡ e y
 with_other e x v y ne = ap (λ b. cond b v (e y)) (ne_eqb y x ne)
 
@@ -53,6 +54,7 @@ unfolding net_value_over
 over_here {V} c r x v vector latches e y is =
     ap (λ b. cond b v (r.stem y (driver_value c (net_forced r x v) vector latches e y))) (eq-eqb y x is)
 
+-- over the same values of the nets, each net but the forced one has the value that it has without
 pub over_other : {V : Type 0} → (c : Netlist) (r : Rules V) (x : ℕ) (v : V) (vector latches : List V) (e : ℕ → V)
     (y : ℕ) → y ≢ x
     → net_value_over c (net_forced r x v) vector latches e y ≡ net_value_over c r vector latches e y
@@ -60,15 +62,6 @@ unfolding net_value_over
 over_other {V} c r x v vector latches e y ne =
     ap (λ b. cond b v (r.stem y (driver_value c (net_forced r x v) vector latches e y))) (ne_eqb y x ne)
     ∙ ap (r.stem y) (driver_forced c r x v vector latches e y)
-
--- an argument of the gate that drives net y is there, and less deep
-arg_lower : (c : Netlist) (depth : ℕ → ℕ) (deep : IsDepth c depth) (y j : ℕ) → y < net_count c → first_gate_net c ≤ y
-    → j < length (gate_at c (y - first_gate_net c)).args
-    → (arg_at c (y - first_gate_net c) j < net_count c) × (depth (arg_at c (y - first_gate_net c) j) < depth y)
-arg_lower c depth deep y j inside at l =
-    let is : first_gate_net c + (y - first_gate_net c) ≡ y = omega arith in
-    let falls = deep.falls (y - first_gate_net c) j (omega arith) l in
-    (deep.known (y - first_gate_net c) j (omega arith) l, omega (arith, falls, ap depth is))
 
 module _ {V : Type 0} (c : Netlist) (circuit : IsCircuit c) (vector latches : List V) where
   -- What is settled by rules is their frame.
@@ -79,6 +72,7 @@ module _ {V : Type 0} (c : Netlist) (circuit : IsCircuit c) (vector latches : Li
       let d = circuit_depth c circuit in
       settled_is_frame c d.0 d.1 s vector latches e (record { settled = settled })
 
+  -- in a frame each net has the value that its driver and its stem give it
   pub frame_over : (s : Rules V) (y : ℕ) → y < net_count c
       → net_value c s vector latches y ≡ net_value_over c s vector latches (net_value c s vector latches) y
   frame_over s =

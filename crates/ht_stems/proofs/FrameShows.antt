@@ -61,6 +61,7 @@ taken_but r s e f j (suc k) v (x ∷ xs) inside pins h takes =
     cc
 
 module _ {V : Type 0} (c : Netlist) (r s : Rules V) (vector latches : List V) where
+  -- outputs show the same in two machines where their nets have the same values
   pub outputs_same : ((o : ℕ) → o < length c.outputs
       → net_value c r vector latches (get_or c.outputs o no_net).0
       ≡ net_value c s vector latches (get_or c.outputs o no_net).0)
@@ -68,6 +69,7 @@ module _ {V : Type 0} (c : Netlist) (r s : Rules V) (vector latches : List V) wh
   unfolding frame_outputs
   outputs_same h = seen_same (net_value c r vector latches) (net_value c s vector latches) c.outputs h
 
+  -- where the nets of all outputs but one have the same values, only that output may show something else
   pub outputs_but : (k : ℕ) (v : V) → k < length c.outputs
       → net_value c r vector latches (get_or c.outputs k no_net).0 ≡ v
       → ((o : ℕ) → o < length c.outputs → o ≢ k
@@ -79,6 +81,7 @@ module _ {V : Type 0} (c : Netlist) (r s : Rules V) (vector latches : List V) wh
       seen_but (net_value c r vector latches) (net_value c s vector latches) k c.outputs inside h
       ∙ ap (set (values_at (net_value c s vector latches) c.outputs) k) is
 
+  -- flip-flops take the same in two machines where their data pins act alike and read the same values
   pub next_same : ((i : ℕ) (v : V) → r.data_pin i v ≡ s.data_pin i v)
       → ((j : ℕ) → j < length c.dffs
       → net_value c r vector latches (get_or c.dffs j no_net).0
@@ -88,6 +91,7 @@ module _ {V : Type 0} (c : Netlist) (r s : Rules V) (vector latches : List V) wh
   next_same pins h = taken_alike r s (net_value c r vector latches) (net_value c s vector latches) 0 c.dffs
       (λ i v l. pins i v) h
 
+  -- where all data pins but one act alike and read the same values, only that flip-flop may take something else
   pub next_but : (k : ℕ) (v : V) → k < length c.dffs
       → v ≡ r.data_pin k (net_value c r vector latches (get_or c.dffs k no_net).0)
       → ((i : ℕ) (w : V) → i ≢ k → r.data_pin i w ≡ s.data_pin i w)

@@ -31,6 +31,7 @@ put_back values x y z v at back =
 pub not_value : {good v : Tern} {r : Bool} → (IsTrue r ↔ (good ≡ v)) → r ≡ false → v ≢ good
 not_value {r = r} told denied e = let yes : r ≡ true = told.1 (sym e) in cc
 
+-- a fact that a test decides doesn't hold where the test fails
 pub not_told : {P : Type 0} → (r : Bool) → (IsTrue r ↔ P) → r ≡ false → ¬ P
 not_told r told denied p = let yes : r ≡ true = told.1 p in cc
 
@@ -113,6 +114,7 @@ all_gates_end c good table order ordered done g known =
     let q = ordered.each.covers g known in
     ends_moved c good table (get_or order q.0 0) g q.2 (done q.0 q.1)
 
+-- a table that says where effects end for inputs, flip-flops and gates says so for each net
 pub all_nets_end : (c : Netlist) (good : ℕ → Tern) (table : List NetEnds)
     → ((x : ℕ) → x < first_gate_net c → AreNetEnds c good x (get_or table x no_ends))
     → ((g : ℕ) → g < length c.gates

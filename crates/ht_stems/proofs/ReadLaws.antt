@@ -95,16 +95,19 @@ no_pins c x none h i gate pin is =
     let part = pins_some c x h gate in
     omega (arith, some, part, none)
 
+-- where a pin of a gate is a net's only load, no other gate reads the net
 pub only_gate : (c : Netlist) (x g : ℕ) → HasLoads c x (OneGate g) → IsReadByGate c x g
 only_gate c x g (one, known, reads) h i gate pin is =
     let some = times_some x i (gate_at c h).args pin is in
     same_term (λ (k : Gate). times x k.args) c.gates no_gate h g gate known some reads (omega (arith, one))
 
+-- a net whose only load is a pin of a gate is at no data pin
 pub gate_not_data : (c : Netlist) (x g : ℕ) → HasLoads c x (OneGate g) → IsNotAmong x c.dffs
 gate_not_data c x g (one, known, reads) =
     let part = pins_some c x g known in
     none_among x c.dffs (omega (arith, one, part, reads))
 
+-- a net whose only load is a pin of a gate is no output
 pub gate_not_output : (c : Netlist) (x g : ℕ) → HasLoads c x (OneGate g) → IsNotAmong x c.outputs
 gate_not_output c x g (one, known, reads) =
     let part = pins_some c x g known in
@@ -127,17 +130,22 @@ alone c x j nets others one known is =
       only = λ k inside ne at. ne (same_place x k j nets inside known at is (omega (arith, one)));
     }
 
+-- a net whose only load is a data pin is at no pin of a gate, at no other data pin, and no output
 pub data_pin_alone : (c : Netlist) (x j : ℕ) → HasLoads c x (OneDataPin j) → IsAlone c x j c.dffs c.outputs
 data_pin_alone c x j (one, known, is) = alone c x j c.dffs c.outputs (omega (arith, one)) known is
 
+-- a net whose only load is an output is at no pin of a gate, at no data pin, and no other output
 pub output_alone : (c : Netlist) (x o : ℕ) → HasLoads c x (OneOutput o) → IsAlone c x o c.outputs c.dffs
 output_alone c x o (one, known, is) = alone c x o c.outputs c.dffs (omega (arith, one)) known is
 
+-- a net without a load is read by no gate
 pub unread_no_gate : (c : Netlist) (x : ℕ) → HasLoads c x NoLoad → IsUnreadByGates c x
 unread_no_gate c x none = no_pins c x (omega (arith, none))
 
+-- a net without a load is at no data pin
 pub unread_not_data : (c : Netlist) (x : ℕ) → HasLoads c x NoLoad → IsNotAmong x c.dffs
 unread_not_data c x none = none_among x c.dffs (omega (arith, none))
 
+-- a net without a load is no output
 pub unread_not_output : (c : Netlist) (x : ℕ) → HasLoads c x NoLoad → IsNotAmong x c.outputs
 unread_not_output c x none = none_among x c.outputs (omega (arith, none))

@@ -95,6 +95,7 @@ module _ (c : Netlist) (good : ℕ → Tern) where
         subst P (loads_determined c x p.1.loads loads p.1.are are) p.1.left
   ]
 
+  -- the effect of a forced net ends in only one way
   pub arrival_determined : (x : ℕ) (v : Tern) (a b : Arrival) → Arrives c good x v a → Arrives c good x v b → a ≡ b
   arrival_determined _ _ _ b (unchanged x v own) arrives = elim (ways x v b arrives) [
     | inl p ↦ sym p.1

@@ -22,6 +22,7 @@ use Rattle.ht_stems.specs.ArrivalsView.{ArrivalsView, good_of_net}
 use Rattle.ht_stems.specs.ArrivalsOf.{AreArrivalFields, arrivals_of}
 
 module _ (a : Inside) (view : ArrivalsView) (is : arrivals_of a ≡ view) (fields : AreArrivalFields a) where
+  -- the circuit of the arrivals is well formed
   pub circuit_told : IsCircuit view.circuit
   circuit_told =
       let P : ArrivalsView → Type 0 = λ w. IsCircuit w.circuit in

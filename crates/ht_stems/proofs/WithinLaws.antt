@@ -31,6 +31,7 @@ module _ (c : Netlist) (good : ℕ → Tern) where
       arrival_within (first_gate_net c + g) _ a arrives (omega arith)
   site_within (DffPin j) bit a line arrives = subst (IsWithin c) (sym arrives) line
 
+  -- the effect of a fault at a line of the circuit ends within the circuit
   pub fault_within : (fault : Fault) (a : Arrival) → HasLine c fault.site → FaultArrives c good fault a
       → IsWithin c a
   fault_within fault a line (inl p) = subst (IsWithin c) (sym p.1) tt

@@ -32,15 +32,19 @@ module _ (c : Netlist) (frames budget : ℕ) (list : Rows) (finds : FindsSyncLis
   vectors_are : list.list ≡ list_of c finds.path frames
   vectors_are = ap (λ (r : Rows). r.list) finds.listed
 
+  -- the list has a vector for each frame
   pub list_counts : length list.list ≡ frames
   list_counts = ap (λ (vs : List (List Bool)). length vs) vectors_are ∙ list_length c finds.path frames
 
+  -- each vector of the list has a bit for each input
   pub list_fits : AreVectors c list.list
   list_fits = subst (λ (vs : List (List Bool)). AreVectors c vs) (sym vectors_are) (list_wide c finds.path frames)
 
+  -- the list is as wide as the circuit has inputs
   pub width_fits : list.width ≡ c.inputs
   width_fits = ap (λ (r : Rows). r.width) finds.listed
 
+  -- the list that the search of one frame or more finds synchronizes
   pub list_synchronizes : 0 < frames → Synchronizes c list.list
   list_synchronizes some =
       subst (λ (vs : List (List Bool)). Synchronizes c vs) (sym vectors_are)
@@ -48,14 +52,17 @@ module _ (c : Netlist) (frames budget : ℕ) (list : Rows) (finds : FindsSyncLis
 
 module _ (c : Netlist) (budget : ℕ) (list : Rows) (walks : List (List Token)) (latches : 0 < length c.dffs)
     (finds : FindsAfter (sync_guide c) (FindsSyncList c) budget list walks) where
+  -- the list found after the closed lengths synchronizes
   pub found_list_synchronizes : Synchronizes c list.list
   found_list_synchronizes =
       list_synchronizes c (next_length walks) (left_after budget walks) list finds.finds (omega arith)
 
+  -- the list found, with the state it synchronizes to, is what the search leads to
   pub found_is_answer : (state : List Bool) → SynchronizesTo c list.list state → SyncFinds c budget list state walks
   found_is_answer state ends =
       record { none = λ e. absurd (omega (arith, latches, e)); some = λ h. finds; ends = ends }
 
+  -- the list found is a shortest that synchronizes, with a complete walk for each shorter length
   pub found_is_shortest : (state : List Bool) → SynchronizesTo c list.list state → IsShortest c list state walks
   found_is_shortest state ends =
       let n = list_counts c (next_length walks) (left_after budget walks) list finds.finds in
@@ -76,6 +83,7 @@ module _ (c : Netlist) (budget : ℕ) (walks : List (List Token)) (spends : Sync
   spent : IsLengthRecord (λ k. (sync_guide c k).judge) budget walks
   spent = spends_record (sync_guide c) budget walks spends.spends
 
+  -- the walks of a search that spends its budget are a spent record
   pub spent_is_record : IsSpentRecord c budget walks
   spent_is_record = record {
     spent = spent;

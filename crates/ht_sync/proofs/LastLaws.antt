@@ -33,6 +33,7 @@ latch_after w path f j inside =
     taken_at r (cell_at w path f) 0 w.circuit.dffs j (pair Unk Unk ∷ []) inside
     ∙ ap (λ (k : ℕ). r.data_pin k (cell_at w path f (get_or w.circuit.dffs j no_net).0)) at
 
+-- the set of a latch after the last frame is that of its next state in this frame
 pub last_is : (w : SearchWindow) (path : List Assign3) (j : ℕ) → 0 < w.frames → j < length w.circuit.dffs
     → last_set w path j ≡ set_at w path (w.frames - 1) (State j)
 last_is w path j some inside =
@@ -54,6 +55,7 @@ pub record SomePasses {X : Type 0} (test : X → Bool) (xs : List X) : Type 0 wh
   pub listed : IsMember member xs
   pub passes : test member ≡ true
 
+-- where a list is tested to have a member that passes, there is one
 pub some_passes : {X : Type 0} → (test : X → Bool) (xs : List X) → list_any test xs ≡ true → SomePasses test xs
 some_passes test [] h = cc
 some_passes test (x ∷ xs) h = elim (or_cases (test x) (list_any test xs) h) [
@@ -132,6 +134,7 @@ module _ (w : SearchWindow) (path : List Assign3) where
     pub inside : latch < length w.circuit.dffs
     pub unknown : (v : Tern) → IsMember (pair v v) (last_set w path latch) → v ≡ Unk
 
+  -- where the status is dead, some latch stays unknown after the last frame
   pub dead_stays : sync_status w path ≡ Dead → StaysUnknown
   dead_stays h =
       let some = some_passes must js (dead_by (list_any must js) (list_any may js) h) in
@@ -163,6 +166,7 @@ module _ (w : SearchWindow) (path : List Assign3) where
       both_ways (undetermined j) (none_finds undetermined js j none some.listed)
       (undetermined_by (may j) (undetermined j) (none_passes must js j some.listed e.0) some.passes)
 
+  -- a latch found to be undetermined is the circuit's, and more than one pair is left to it
   pub found_latch : (j : ℕ) → find undetermined js ≡ Some j
       → (j < length w.circuit.dffs) × (1 < length (last_set w path j))
   found_latch j is =

@@ -57,17 +57,20 @@ module _ (w : SearchWindow) (path : List Assign3) where
           ∙ (ap (λ (js : List ℕ). some || list_any may js) (from_here m j inside)
           ∙ ap (λ (x : Bool). some || (x || list_any may (from (j + 1) m))) e)
 
+      -- where a latch must be unknown after the last frame, the status is dead
       pub see_dead : may_be_unknown set ≡ true → is_undetermined set ≡ false → sync_status w path ≡ Dead
       see_dead e d =
           ap (λ (b : Bool). cond b Dead (cond (list_any may (flip_flops w.circuit)) Open Sure))
           (must_from true (must_here true false e d))
 
+      -- after a latch that may be unknown and is undetermined, the latches up to it are seen, and some may be unknown
       pub see_some : may_be_unknown set ≡ true → is_undetermined set ≡ true → IsSeen (j + 1) true
       see_some e d = record {
         must_is = must_from false (must_here true true e d);
         may_is = may_from true (may_here true e) ∙ or_true some;
       }
 
+      -- after a latch that can't be unknown, the latches up to it are seen, and what may be unknown is as before
       pub see_known : may_be_unknown set ≡ false → IsSeen (j + 1) some
       see_known e = record {
         must_is = must_from false (must_here false (is_undetermined set) e refl);

@@ -46,6 +46,7 @@ module _ (c : Netlist) (k : ℕ) (some : 0 < k) (path : List Assign3) (list : Li
   abbrev value : ℕ → Tern
   value j = get_or (state_after c list) j Unk
 
+  -- the value of a latch after the list, in both halves of a pair, is a member of its last set
   pub last_member : (j : ℕ) → j < length c.dffs → IsMember (pair (value j) (value j)) (last_set w path j)
   last_member j inside =
       let r = tern_rules None in
@@ -131,6 +132,7 @@ definite_bits (v ∷ s) h =
     let rest = definite_bits s (λ j l. h (suc j) (omega (arith, l))) in
     (λ i. first i ∷ rest i)
 
+-- a list that synchronizes does so to the bits of the state after it
 pub synchronizes_to : (c : Netlist) (list : List (List Bool)) → Synchronizes c list
     → SynchronizesTo c list (map wants_one (state_after c list))
 synchronizes_to c list h =
@@ -174,6 +176,7 @@ same_bits (b ∷ state) (d ∷ t) h =
     let rest = same_bits state t h.1 in
     (λ i. first i ∷ rest i)
 
+-- over a list that synchronizes to a state, each two-valued run ends in this state
 pub ends_each_run : (c : Netlist) (list : List (List Bool)) (state : List Bool) → SynchronizesTo c list state
     → EndsEachRun c list state
 ends_each_run c list state to start is =
@@ -188,6 +191,7 @@ variable_below c k var h = elim (or_cases _ false h) [
   | inr e ↦ cc
 ]
 
+-- the walks in a window of k frames are shorter than 2^(k * n + 1) tokens, for n inputs
 pub sync_walks_short : (c : Netlist) → AreShort (λ k. (sync_guide c k).judge) c.inputs
 sync_walks_short c k tokens some fit =
     goal_walk_short (sync_goal (sync_window c k)) (k * c.inputs) (variable_below c k) (λ var. refl) tokens fit

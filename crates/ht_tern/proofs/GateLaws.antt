@@ -8,6 +8,7 @@ use Rattle.ht_tern.specs.declared.gate.Kind.TheVariants.{And, Nand, Or, Nor, Xor
 use Rattle.ht_tern.specs.Gate.{Operations, tern_operations, bool_operations, operation_of, polarity_of, folded, gate_value_over, gate_value, bool_gate_value, tern_of, Refines, StandsFor, AllRelated, complement_of, and_of, or_of, xor_of, HasArity}
 use Rattle.ht_tern.proofs.RefinementLaws.{PreservesOperations, refinement_preserved, bits_preserved, not_bits, and_bits, or_bits, xor_bits}
 
+-- the operation that a kind folds keeps each relation that the operations of both domains keep
 pub operation_related : {V W : Type 0} → (R : V → W → Type 0) (o : Operations V) (p : Operations W)
     (keeps : PreservesOperations R o p) (kind : Kind) (x u : V) (y v : W)
     → R x y → R u v → R (operation_of o kind x u) (operation_of p kind y v)
@@ -20,6 +21,7 @@ operation_related R o p keeps Xnor x u y v h k = keeps.parity x u y v h k
 operation_related R o p keeps Not x u y v h k = h
 operation_related R o p keeps Buf x u y v h k = h
 
+-- a complement where the kind inverts keeps each relation that the operations of both domains keep
 pub polarity_related : {V W : Type 0} → (R : V → W → Type 0) (o : Operations V) (p : Operations W)
     (keeps : PreservesOperations R o p) (kind : Kind) (x : V) (y : W)
     → R x y → R (polarity_of o kind x) (polarity_of p kind y)
@@ -32,6 +34,7 @@ polarity_related R o p keeps Xnor x y h = keeps.complement x y h
 polarity_related R o p keeps Not x y h = keeps.complement x y h
 polarity_related R o p keeps Buf x y h = h
 
+-- folds from related values over related lists are related, if each step keeps the relation
 pub folded_related : {V W : Type 0} → (R : V → W → Type 0) (f : V → V → V) (g : W → W → W)
     (keeps : (x u : V) (y v : W) → R x y → R u v → R (f x u) (g y v))
     (x : V) (y : W) (xs : List V) (ys : List W) → R x y → AllRelated R xs ys → R (folded f x xs) (folded g y ys)
@@ -41,6 +44,7 @@ folded_related R f g keeps x y (u ∷ xs) [] h k = absurd k
 folded_related R f g keeps x y (u ∷ xs) (v ∷ ys) h k = folded_related R f g keeps (f x u) (g y v) xs ys
     (keeps x u y v h k.0) k.1
 
+-- a gate's values over two domains are related, if arguments and blanks are and the operations keep the relation
 pub gate_related : {V W : Type 0} → (R : V → W → Type 0) (o : Operations V) (p : Operations W)
     (keeps : PreservesOperations R o p) (d : V) (e : W) (blank : R d e)
     (kind : Kind) (xs : List V) (ys : List W) → AllRelated R xs ys
@@ -53,10 +57,12 @@ gate_related R o p keeps d e blank kind (x ∷ xs) (y ∷ ys) h =
     (folded_related R (operation_of o kind) (operation_of p kind) (operation_related R o p keeps kind) x y xs ys h.0
     h.1)
 
+-- a gate's value over some arguments refines its value over any that those refine
 pub gate_refines : (kind : Kind) (xs ys : List Tern) → AllRelated Refines xs ys
     → Refines (gate_value kind xs) (gate_value kind ys)
 gate_refines = gate_related Refines tern_operations tern_operations refinement_preserved Unk Unk (inl refl)
 
+-- a gate's value on bits stands for its three-valued value over what those bits stand for
 pub gate_bits : (kind : Kind) (xs : List Tern) (ys : List Bool) → AllRelated StandsFor xs ys
     → StandsFor (gate_value kind xs) (bool_gate_value kind ys)
 gate_bits = gate_related StandsFor tern_operations bool_operations bits_preserved Unk false (inl refl)
@@ -77,6 +83,7 @@ are_bits : (bits : List Bool) → AllRelated IsBit (map tern_of bits) bits
 are_bits [] = tt
 are_bits (bit ∷ bits) = (refl, are_bits bits)
 
+-- on definite arguments, one or more, a gate gives what it gives on bits
 pub gate_definite : (kind : Kind) (bits : List Bool) → 0 < length bits → gate_value kind (map tern_of bits)
     ≡ tern_of (bool_gate_value kind bits)
 gate_definite kind [] some = absurd (omega arith)

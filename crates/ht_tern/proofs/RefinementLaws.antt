@@ -16,6 +16,7 @@ pub record PreservesOperations {V W : Type 0} (R : V → W → Type 0) (o : Oper
 abbrev pub all_terns : (Tern → Bool) → Bool
 all_terns p = p Zero && (p One && p Unk)
 
+-- a test that passes on all three values passes on each
 pub each_tern : (p : Tern → Bool) → all_terns p ≡ true → (x : Tern) → p x ≡ true
 each_tern p h Zero = (and_parts (p Zero) _ h).0
 each_tern p h One = (and_parts (p One) _ (and_parts (p Zero) _ h).1).0
@@ -27,6 +28,7 @@ refines_test Zero Zero = true
 refines_test One One = true
 refines_test a b = false
 
+-- where the test passes, the first value refines the second
 pub refines_from : (a b : Tern) → refines_test a b ≡ true → Refines a b
 refines_from a Unk h = inl refl
 refines_from Zero Zero h = inr refl
@@ -36,6 +38,7 @@ refines_from One Zero h = cc
 refines_from Unk Zero h = cc
 refines_from Unk One h = cc
 
+-- a value that refines another passes the test
 pub refines_to : (a b : Tern) → Refines a b → refines_test a b ≡ true
 refines_to a Unk h = refl
 refines_to Zero Zero h = refl
@@ -54,6 +57,7 @@ abbrev pub follows : Bool → Bool → Bool
 follows true b = b
 follows false b = true
 
+-- where a second test follows from the first and the first passes, so does the second
 pub follows_gives : (a b : Bool) → follows a b ≡ true → a ≡ true → b ≡ true
 follows_gives true b h k = h
 follows_gives false b h k = cc
@@ -66,6 +70,7 @@ keeps_at f x u y v = follows (refines_test x y && refines_test u v) (refines_tes
 abbrev pub keeps_two : (Tern → Tern → Tern) → Bool
 keeps_two f = all_terns (λ x. all_terns (λ u. all_terns (λ y. all_terns (λ v. keeps_at f x u y v))))
 
+-- an operation that keeps refinement by its table keeps it at all arguments
 pub keeps_two_gives : (f : Tern → Tern → Tern) → keeps_two f ≡ true → (x u y v : Tern) → Refines x y → Refines u v
     → Refines (f x u) (f y v)
 keeps_two_gives f h x u y v a b =
@@ -88,6 +93,7 @@ complement_keeps x y h =
     refines_from _ _
     (follows_gives (refines_test x y) (refines_test (complement_of x) (complement_of y)) at_y (refines_to x y h))
 
+-- the operations of three-valued logic keep refinement
 pub refinement_preserved : PreservesOperations Refines tern_operations tern_operations
 refinement_preserved = record {
   complement = complement_keeps;
@@ -102,22 +108,27 @@ pub stands_two : (f : Tern → Tern → Tern) (g : Bool → Bool → Bool) → k
     → (x u : Tern) (y v : Bool) → StandsFor x y → StandsFor u v → StandsFor (f x u) (g y v)
 stands_two f g k e x u y v h l = rw e (keeps_two_gives f k (tern_of y) (tern_of v) x u h l)
 
+-- the complement of a bit is the same over two values and over three
 pub not_bits : (b : Bool) → tern_of (not b) ≡ complement_of (tern_of b)
 not_bits false = refl
 not_bits true = refl
 
+-- the conjunction of two bits is the same over two values and over three
 pub and_bits : (a b : Bool) → tern_of (a && b) ≡ and_of (tern_of a) (tern_of b)
 and_bits false b = refl
 and_bits true b = refl
 
+-- the disjunction of two bits is the same over two values and over three
 pub or_bits : (a b : Bool) → tern_of (a || b) ≡ or_of (tern_of a) (tern_of b)
 or_bits false b = refl
 or_bits true b = refl
 
+-- the exclusive or of two bits is the same over two values and over three
 pub xor_bits : (a b : Bool) → tern_of (bool_xor a b) ≡ xor_of (tern_of a) (tern_of b)
 xor_bits false b = refl
 xor_bits true b = not_bits b
 
+-- where bits stand for values, an operation on the bits stands for the one on the values
 pub bits_preserved : PreservesOperations StandsFor tern_operations bool_operations
 bits_preserved = record {
   complement = λ x y h. rw not_bits (refinement_preserved.complement (tern_of y) x h);

@@ -4,6 +4,7 @@ use Rattle.std.proofs.lemmas.Bool.{cases_eq}
 use Rattle.std.proofs.lemmas.List.{length-map}
 use Rattle.ht_texts.specs.Tests.{IsCoded}
 
+-- each character of a line of codes is the code of a value
 pub get_or-coded : {A : Type 0} (code : A → ℕ) (values : List A) (k : ℕ) → k < length values
     → (value : A) × (get_or (map code values) k 0 ≡ code value)
 get_or-coded code [] k below = absurd (omega arith)
@@ -53,6 +54,7 @@ coded_or_none code value_or_none width line = elim (cases_eq (length line) width
   ]
 ]
 
+-- lists are the same if an injective function maps them to the same list
 pub map_injective : {A B : Type 0} (f : A → B) → ((x y : A) → f x ≡ f y → x ≡ y) → (xs ys : List A)
     → map f xs ≡ map f ys → xs ≡ ys
 map_injective f injective [] [] e = refl

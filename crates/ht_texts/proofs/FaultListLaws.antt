@@ -62,10 +62,12 @@ one_number count m n few of_m of_n e =
 abbrev UpTo : ℕ → List ℕ → Type 0
 UpTo count numbers = (k : ℕ) → k < length numbers → get_or numbers k 0 ≤ count
 
+-- no number in the lines of a list of faults is above the count of faults
 pub up_to : (count : ℕ) (lines : List (List ℕ)) (numbers : List ℕ) → AreFaultLines count lines numbers
     → UpTo count numbers
 up_to count lines numbers are k below = (are.listed k 0 below).1
 
+-- lists of numbers that 64 bits hold are the same if their decimal texts are
 pub same_numbers : (count : ℕ) (a b : List ℕ) → count < 2 ^ 64 → UpTo count a → UpTo count b
     → map decimal a ≡ map decimal b → a ≡ b
 same_numbers count [] [] few of_a of_b e = refl
@@ -79,6 +81,7 @@ same_numbers count (x ∷ a) (y ∷ b) few of_a of_b e =
     (λ k below. of_b (suc k) (omega (arith, below))) more in
     ap (λ l. x ∷ l) rest ∙ ap (λ n. n ∷ b) first
 
+-- lines are those of at most one list of faults
 pub one_list : (count : ℕ) (lines : List (List ℕ)) (a b : List ℕ) → count < 2 ^ 64 → AreFaultLines count lines a
     → AreFaultLines count lines b → a ≡ b
 one_list count lines a b few of_a of_b =
@@ -94,6 +97,7 @@ pub record IsNextFault (count : ℕ) (numbers line : List ℕ) (number : ℕ) : 
 abbrev IsListed : ℕ → ℕ → Type 0
 IsListed count number = (0 < number) × (number ≤ count)
 
+-- the lines of a list of faults and that of a next fault are the lines of the longer list
 pub next_is_taken : (count : ℕ) (lines : List (List ℕ)) (numbers line : List ℕ) (number : ℕ)
     → AreFaultLines count lines numbers → IsNextFault count numbers line number
     → AreFaultLines count (lines ++ line ∷ []) (numbers ++ number ∷ [])
@@ -232,6 +236,7 @@ never_both count text numbers n is malformed = elim malformed.wrong [
   | inr long ↦ short_is_right text is.short n long
 ]
 
+-- each text is that of one list of faults or malformed at one line, where 64 bits count the faults
 pub fault_list_or_malformed : (count : ℕ) (text : List ℕ) → count < 2 ^ 64 → IsFaultListOrMalformed count text
 fault_list_or_malformed count text few = record {
   either = list_or_line count text few;
@@ -242,6 +247,7 @@ fault_list_or_malformed count text few = record {
 
 -- ---- what a reader needs
 
+-- the lines of a list of faults are short
 pub fault_lines_are_short : (count : ℕ) (lines : List (List ℕ)) (numbers : List ℕ) → count < 2 ^ 64
     → AreFaultLines count lines numbers → All IsShortLine lines
 fault_lines_are_short count lines numbers few are =

@@ -18,6 +18,7 @@ rest_on word text front rest None after is = λ more e.
 rest_on word text front rest (Some found) after is =
     is ∙ ap (λ t. front ++ t) after ∙ sym (append_assoc front word found.now)
 
+-- what follows a word at the front of a rest is that rest with the word taken off
 pub strips_some : (word : List ℕ) (rest : Bor (List ℕ)) (new : Option (Bor (List ℕ)))
     → IsRestAfter word rest.now new → Strips word (Some rest) new
 strips_some word rest new after = record { taken = λ text front is. rest_on word text front rest new after is }
@@ -38,14 +39,17 @@ strips_pieces {old = old} {rest = rest} {new = new} a b first second =
 
 -- ---- a whole text
 
+-- a word that is taken off a whole text leaves what follows it there
 pub rest_of_text : {word : List ℕ} {text : Bor (List ℕ)} {rest : Option (Bor (List ℕ))} → Strips word (Some text) rest
     → IsRestAfter word text.now rest
 rest_of_text {text = text} strips = strips.taken text.now [] refl
 
+-- a text in which no rest follows a word doesn't begin with the word
 pub no_rest : (word text : List ℕ) (rest : Option (Bor (List ℕ))) → rest ≡ None → IsRestAfter word text rest
     → (more : List ℕ) → text ≢ word ++ more
 no_rest word text rest none after = subst (IsRestAfter word text) none after
 
+-- a text in which a rest follows a word is the word and that rest
 pub the_rest : (word text : List ℕ) (rest : Option (Bor (List ℕ))) (found : Bor (List ℕ)) → rest ≡ Some found
     → IsRestAfter word text rest → text ≡ word ++ found.now
 the_rest word text rest found is after = subst (IsRestAfter word text) is after

@@ -63,16 +63,6 @@ word_is_sayable c Undetectable other = tt
 word_is_sayable c Aborted other = tt
 word_is_sayable c Undetected other = tt
 
--- a text that is none of the words is that of none of their verdicts
-pub no_word : (c : Netlist) (text : List ℕ) → text ≢ codes "untestable" → text ≢ codes "undetectable"
-    → text ≢ codes "aborted" → text ≢ codes "undetected" → (said : Said) → says_detected said ≡ false
-    → text ≢ verdict_text c said
-no_word c text untestable undetectable aborted undetected (Detected place) other e = cc
-no_word c text untestable undetectable aborted undetected Untestable other e = untestable e
-no_word c text untestable undetectable aborted undetected Undetectable other e = undetectable e
-no_word c text untestable undetectable aborted undetected Aborted other e = aborted e
-no_word c text untestable undetectable aborted undetected Undetected other e = undetected e
-
 -- a text that is neither a word nor a detection is that of no verdict
 pub no_verdict : (c : Netlist) (text : List ℕ)
     → ((said : Said) → says_detected said ≡ false → text ≢ verdict_text c said)

@@ -11,12 +11,15 @@ use Rattle.ht_texts.specs.Tests.{lf_count}
 abbrev one_if_lf : ℕ → ℕ
 one_if_lf x = cond (x == 10) 1 0
 
+-- two texts joined have the LFs of both
 pub lf_count-append : (xs ys : List ℕ) → lf_count (xs ++ ys) ≡ lf_count xs + lf_count ys
 lf_count-append xs ys = sum_by-append one_if_lf xs ys
 
+-- a byte in front of a text adds one LF if it is an LF, else none
 pub lf_count-cons : (x : ℕ) (xs : List ℕ) → lf_count (x ∷ xs) ≡ one_if_lf x + lf_count xs
 lf_count-cons x xs = sum_by-cons one_if_lf x xs
 
+-- bytes without an LF have 0 of them
 pub no_lf_count : (piece : List ℕ) → HasNoLf piece → lf_count piece ≡ 0
 no_lf_count [] none = refl
 no_lf_count (x ∷ piece) none =

@@ -40,6 +40,7 @@ plain_at bytes k plain below =
       | inr other ↦ absurd (false≢true (sym (list_all_at is_line_byte bytes k 0 below other) ∙ plain))
     ]
 
+-- a line of plain bytes is clean: it has no LF, and no CR at its end
 pub plain_is_clean : (bytes : List ℕ) → ArePlain bytes → IsClean bytes
 plain_is_clean bytes plain = record {
   no_lf = λ k below. (plain_at bytes k plain below).0;
@@ -50,6 +51,7 @@ abbrev pub AreClean : List (List ℕ) → Type 0
 AreClean [] = Unit {0}
 AreClean (line ∷ lines) = IsClean line × AreClean lines
 
+-- clean lines that are written each with its LF are the lines of that text
 pub lines_are_lines : (lines : List (List ℕ)) → AreClean lines → lines_of (with_lfs lines) ≡ lines
 lines_are_lines [] clean = refl
 lines_are_lines (line ∷ lines) clean =
@@ -68,6 +70,7 @@ module _ {A : Type 0} (code : A → ℕ) (plain : (value : A) → is_line_byte (
   coded_are_clean [] = tt
   coded_are_clean (values ∷ list) = (plain_is_clean (map code values) (coded_is_plain values), coded_are_clean list)
 
+  -- lines of characters that are plain, each written with its LF, are the lines of their text
   pub coded_are_lines : (list : List (List A))
       → lines_of (with_lfs (map (λ values. map code values) list)) ≡ map (λ values. map code values) list
   coded_are_lines list = lines_are_lines (map (λ values. map code values) list) (coded_are_clean list)

@@ -25,6 +25,7 @@ pub first_lines_are_short : (lines more : List (List ℕ)) → All IsShortLine (
 first_lines_are_short lines more short =
     subst (All IsShortLine) (take-append_seam lines more) (All-take IsShortLine (length lines) (lines ++ more) short)
 
+-- lines that begin the report of a search are short, if the names of the circuit are
 pub report_is_short : (c : Netlist) (representatives : List ℕ) (lines : List (List ℕ)) → IsCircuit c
     → AreClasses c representatives → HasShortNames c → IsReportFront c representatives lines → All IsShortLine lines
 report_is_short c representatives lines is classes names front =

@@ -2,7 +2,7 @@
 use Rattle.std.proofs.Common.{◌≡◌, ◌⊎◌, inl, inr, ℕ, ◌+◌, ◌-◌, ◌<◌, ◌≤◌, List, [], ◌∷◌, ◌++◌, length, take, Some, None, Option, append_assoc, append-nil, refl, sym, ◌∙◌, ap, arith}
 use Rattle.std.specs.Io.KnownBytes.{IsAtEnd}
 use Rattle.std.proofs.lemmas.List.{length-append}
-use Rattle.std.proofs.Math.Seq.{take-append-add, take-append_seam}
+use Rattle.std.proofs.Math.Seq.{take-append-add}
 use Rattle.ht_ports.specs.LineRule.{NextLine, lines_of, first_through, max_text_bytes}
 use Rattle.ht_ports.proofs.TextLaws.{next_splits, length-first_through}
 use Rattle.ht_texts.specs.Tests.{lf_count, line_of_byte, IsTooLong}
@@ -16,6 +16,7 @@ pub record LinesSoFar (text : List ℕ) (passed : ℕ) (lines : List (List ℕ))
   pub lfs : 0 < length rest → lf_count front ≡ length lines
   pub lines_are : lines_of text ≡ lines ++ lines_of rest
 
+-- at the start no line of a text is read, and the whole text is still to come
 pub lines_start : (text : List ℕ) → LinesSoFar text 0 [] text
 lines_start text = record { front = []; whole = refl; size = refl; lfs = λ _. refl; lines_are = refl }
 
@@ -68,14 +69,6 @@ lines_end text passed lines so = (
 )
 
 -- ---- the lines by number
-
-pub first_lines : (text : List ℕ) (passed : ℕ) (lines : List (List ℕ)) (rest : List ℕ)
-    → LinesSoFar text passed lines rest
-    → (take (length lines) (lines_of text) ≡ lines) × (length lines ≤ length (lines_of text))
-first_lines text passed lines rest so = (
-  ap (take (length lines)) so.lines_are ∙ take-append_seam lines (lines_of rest),
-  omega (arith, ap length so.lines_are, length-append lines (lines_of rest)),
-)
 
 -- ---- where a text gets too long
 

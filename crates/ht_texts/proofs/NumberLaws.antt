@@ -7,6 +7,7 @@ use Rattle.std.proofs.lemmas.Fmt.{IsAscii-decimal, parse-decimal}
 use Rattle.std.proofs.lemmas.Str.{IsUtf8-from_ascii}
 use Rattle.ht_texts.specs.Numbers.{IsNumberText}
 
+-- the text of a number is UTF-8
 pub number_is_utf8 : (most : ℕ) (text : List ℕ) (number : ℕ) → most < 2 ^ 64 → IsNumberText most text number
     → IsUtf8 text
 number_is_utf8 most text number small is = subst IsUtf8 (sym is.digits)

@@ -24,9 +24,11 @@ added text (piece ∷ pieces) =
     ∙ append_assoc text (piece_text piece) (pieces_text pieces)
     ∙ ap (λ t. text ++ t) (sym (added (piece_text piece) pieces))
 
+-- the text of two lists of pieces joined is that of the first and then that of the second
 pub pieces_both : (a b : List Piece) → pieces_text (a ++ b) ≡ pieces_text a ++ pieces_text b
 pieces_both a b = fold-append (λ so_far piece. so_far ++ piece_text piece) [] a b ∙ added (pieces_text a) b
 
+-- a list of pieces that is added after another is added with it as one list
 pub added_both : (text : List ℕ) (a b : List Piece) → add_pieces (add_pieces text a) b ≡ add_pieces text (a ++ b)
 added_both text a b = sym (fold-append (λ so_far piece. so_far ++ piece_text piece) text a b)
 
@@ -93,6 +95,7 @@ both_size : (a b : List Piece) → pieces_size (a ++ b) ≡ pieces_size a + piec
 both_size [] b = omega arith
 both_size (piece ∷ a) b = omega (arith, both_size a b)
 
+-- pieces that fit in m bytes and pieces that fit in n fit in m + n together
 pub fit_both : {IsName : List ℕ → Type 0} {m n : ℕ} {a b : List Piece} → FitIn IsName m a → FitIn IsName n b
     → FitIn IsName (m + n) (a ++ b)
 fit_both {IsName = IsName} {a = a} {b = b} of_a of_b = record {
@@ -106,6 +109,7 @@ pub record IsFitLine (IsName : List ℕ → Type 0) (line : List ℕ) : Type 0 w
   pub fit : FitIn IsName MAX_LINE_BYTES pieces
   pub is : line ≡ pieces_text pieces
 
+-- pieces that fit in no more bytes than a line may have make a line that fits
 pub fit_line : {IsName : List ℕ → Type 0} {most : ℕ} {pieces : List Piece} → FitIn IsName most pieces
     → most ≤ MAX_LINE_BYTES → IsFitLine IsName (pieces_text pieces)
 fit_line {pieces = pieces} fit room = record {
@@ -128,6 +132,7 @@ plain_added text (piece ∷ pieces) of_text fit =
     plain_added (text ++ piece_text piece) pieces
     (plain_both text (piece_text piece) of_text (plain_piece piece fit.0)) fit.1
 
+-- a line that fits has no LF and no CR, if its names have none
 pub fit_is_plain : (line : List ℕ) → IsFitLine ArePlain line → ArePlain line
 fit_is_plain line is = subst ArePlain (sym is.is) (plain_added [] is.pieces refl is.fit.fit)
 
@@ -146,6 +151,7 @@ short_added text (piece ∷ pieces) fit = omega (
   short_piece piece fit.0,
 )
 
+-- a line that fits is short, if its names are
 pub fit_is_short : (line : List ℕ) → IsFitLine IsShortName line → IsShortLine line
 fit_is_short line is =
     subst IsShortLine (sym is.is) (omega (arith, short_added [] is.pieces is.fit.fit, is.fit.size))

@@ -24,6 +24,7 @@ lines_few c is = omega (arith, faults_count (sites_of c), sites_few c is)
 
 -- ---- what a call leaves
 
+-- a live reader takes a line that says an item, if it counts the line and what the item says
 pub line_taken : (a : Inside) (line : List ℕ) (item : Item) (sums : Sums) → ReadsReport a → IsTrue a.live
     → SaysItem a.circuit.now a.classes.now a.lines_read a.sums line item → CountsItem item a.sums sums
     → ReportCalled (report_view a) (report_view (record a { lines_read = a.lines_read + 1; sums = sums })) line
@@ -47,6 +48,7 @@ line_taken a line item sums reads live says counts = record {
   refused = λ lines at stands. tt;
 }
 
+-- a reader that is no longer live after a line that says no item has refused that line, by its number
 pub line_refused : (a : Inside) (line : List ℕ) → ReadsReport a
     → ((item : Item) → ¬ SaysItem a.circuit.now a.classes.now a.lines_read a.sums line item)
     → ReportCalled (report_view a) (report_view (record a { live = false })) line
@@ -69,6 +71,7 @@ line_refused a line reads none = record {
 
 -- ---- the end
 
+-- a reading of two lines more than the circuit has faults is at the end of the report
 pub whole_read : (c : Netlist) (representatives : List ℕ) (lines : List (List ℕ)) (at : ReportReading)
     → ReportReadsTo c representatives lines at → length lines ≡ length (faults_of c) + 2
     → (budget : ℕ) × (saids : List Said) × (at ≡ after_report budget saids)
@@ -81,6 +84,7 @@ whole_read c representatives lines (in_report budget saids) read all = absurd (o
 ))
 whole_read c representatives lines (after_report budget saids) read all = (budget, saids, refl)
 
+-- lines are no report of a search unless they are two more than the circuit has faults
 pub not_whole : (c : Netlist) (representatives : List ℕ) (lines : List (List ℕ)) (budget : ℕ) (saids : List Said)
     → length lines ≢ length (faults_of c) + 2 → ¬ IsSearchReport c representatives lines budget saids
 not_whole c representatives lines budget saids differs report =

@@ -24,16 +24,19 @@ use Rattle.ht_texts.proofs.VerdictLaws.{SameKind, same_kind}
 
 -- ---- how many lines are read
 
+-- the head and the lines of the first n faults are n + 1 lines
 pub length-first_lines : (c : Netlist) (representatives : List ℕ) (budget : ℕ) (saids : List Said) (n : ℕ)
     → length (first_lines c representatives (Some budget) saids n) ≡ n + 1
 length-first_lines c representatives budget saids n = omega (arith, length-fault_lines c representatives saids n)
 
+-- within a report one line more is read than there are faults of which something is said
 pub length-in_report : (c : Netlist) (representatives : List ℕ) (lines : List (List ℕ)) (budget : ℕ)
     (saids : List Said) → ReportReadsTo c representatives lines (in_report budget saids)
     → length lines ≡ length saids + 1
 length-in_report c representatives lines budget saids read =
     ap length read.lines_are ∙ length-first_lines c representatives budget saids (length saids)
 
+-- a report that is read to its end has two lines more than the circuit has faults
 pub length-after_report : (c : Netlist) (representatives : List ℕ) (lines : List (List ℕ)) (budget : ℕ)
     (saids : List Said) → ReportReadsTo c representatives lines (after_report budget saids)
     → length lines ≡ length (faults_of c) + 2

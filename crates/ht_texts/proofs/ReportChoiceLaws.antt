@@ -28,6 +28,7 @@ use Rattle.ht_texts.proofs.SaidLaws.{line_of_member}
 
 -- ---- what is decided
 
+-- two lists of bytes are the same, or they differ
 pub same_or_not : (a b : List ℕ) → (a ≡ b) ⊎ (a ≢ b)
 same_or_not a b =
     let decides = bytes_eq-Decides a b in

@@ -24,6 +24,7 @@ use Rattle.ht_texts.proofs.VerdictLaws.{one_verdict}
 
 -- ---- the first lines of a report
 
+-- the report of a search has two lines more than the circuit has faults
 pub length-report_lines : (c : Netlist) (representatives : List ℕ) (budget : ℕ) (saids : List Said)
     → length (report_lines c representatives (Some budget) saids) ≡ length (faults_of c) + 2
 length-report_lines c representatives budget saids =
@@ -95,6 +96,7 @@ front_of c representatives lines whole k budget saids is report = record {
       (sym (ap (λ l. l ++ drop k whole) is ∙ take-append-drop k whole)) report;
 }
 
+-- lines that are read, however far, begin some report of a search
 pub reading_is_front : (c : Netlist) (representatives : List ℕ) (lines : List (List ℕ)) (at : ReportReading)
     → ReportReadsTo c representatives lines at → IsReportFront c representatives lines
 unfolding completed
@@ -191,6 +193,7 @@ by_count c representatives lines more budget saids (suc m) count report =
           )
     ]
 
+-- lines that begin some report of a search are read
 pub front_is_reading : (c : Netlist) (representatives : List ℕ) (lines : List (List ℕ))
     → IsReportFront c representatives lines → (at : ReportReading) × ReportReadsTo c representatives lines at
 front_is_reading c representatives lines front =
@@ -246,6 +249,7 @@ one_report c representatives lines budget budget' a b is of_a of_b =
     (total_line (report_sums representatives (Some budget) a))
     (total_line (report_sums representatives (Some budget') b)) (sym of_a.lines_are ∙ of_b.lines_are)).0
 
+-- two readings of the same lines are equally far and say the same
 pub one_reading : (c : Netlist) (representatives : List ℕ) (lines : List (List ℕ)) (a b : ReportReading)
     → IsCircuit c → ReportReadsTo c representatives lines a → ReportReadsTo c representatives lines b
     → SaySame representatives a b

@@ -36,6 +36,7 @@ use Rattle.ht_texts.proofs.SiteLaws.{fault_is_on_line}
 
 -- ---- counts are small
 
+-- 32 bits count the classes of a circuit
 pub classes_few : (c : Netlist) (representatives : List ℕ) → IsCircuit c → AreClasses c representatives
     → class_count representatives < 2 ^ 32
 classes_few c representatives is classes =

@@ -32,6 +32,7 @@ report_is_front c representatives lines budget saids report =
     reading_is_front c representatives lines (after_report budget saids)
     (record { readable = report.search; lines_are = report.lines_are })
 
+-- the text of a report is malformed at no line
 pub report_is_not_malformed : (c : Netlist) (representatives : List ℕ) (text : List ℕ) (budget : ℕ)
     (saids : List Said) (n : ℕ) → IsReportText c representatives text budget saids
     → ¬ IsMalformedReport c representatives text n
@@ -87,6 +88,7 @@ whole_or_early c representatives text listed =
       ]
     ]
 
+-- each text is that of a report of a search, or malformed at some line
 pub report_or_malformed : (c : Netlist) (representatives : List ℕ) (text : List ℕ)
     → length representatives ≡ length (faults_of c)
     → ((budget : ℕ) × (saids : List Said) × IsReportText c representatives text budget saids)

@@ -16,18 +16,22 @@ use Rattle.ht_texts.proofs.PieceLaws.{pieces_both}
 
 -- ---- one verdict more
 
+-- verdicts that are added at the end change nothing that is said of the faults before
 pub said_before : (saids more : List Said) (i : ℕ) → i < length saids → said_at (saids ++ more) i ≡ said_at saids i
 said_before saids more i below = get_or_append_left saids more Undetected i below
 
+-- a verdict that is added at the end of n others is what is said of fault n
 pub said_last : (saids : List Said) (said : Said) → said_at (saids ++ said ∷ []) (length saids) ≡ said
 said_last saids said = get_or-append_seam saids said [] Undetected
 
 -- ---- the line of a fault
 
+-- the outcome of a representative is its verdict
 pub outcome_of_representative : (c : Netlist) (representatives : List ℕ) (i : ℕ) (said : Said)
     → is_representative representatives i ≡ true → outcome_pieces c representatives i said ≡ verdict_pieces c said
 outcome_of_representative c representatives i said own = rw own refl
 
+-- the outcome of a fault that isn't its own representative is `as` and the number of the one that is
 pub outcome_of_member : (c : Netlist) (representatives : List ℕ) (i : ℕ) (said : Said)
     → is_representative representatives i ≡ false
     → outcome_pieces c representatives i said
@@ -41,6 +45,7 @@ pub line_parts : (c : Netlist) (representatives : List ℕ) (i : ℕ) (said : Sa
 line_parts c representatives i said outcome is =
     ap (λ p. pieces_text (line_front c i ++ p)) is ∙ pieces_both (line_front c i) outcome
 
+-- the line of a representative is the fault and then its verdict
 pub line_of_representative : (c : Netlist) (representatives : List ℕ) (i : ℕ) (said : Said)
     → is_representative representatives i ≡ true
     → fault_line c representatives i said ≡ pieces_text (line_front c i) ++ verdict_text c said
@@ -58,16 +63,19 @@ line_of_member c representatives i a b other =
 
 -- ---- the lines of the first faults
 
+-- the first n faults have n lines
 pub length-fault_lines : (c : Netlist) (representatives : List ℕ) (saids : List Said) (n : ℕ)
     → length (fault_lines c representatives saids n) ≡ n
 length-fault_lines c representatives saids n =
     length-map-range_with_len (λ i. fault_line c representatives i (said_at saids i)) 0 n
 
+-- of the lines of faults, the one at index i is that of fault i, with what is said of it
 pub get_or-fault_lines : (c : Netlist) (representatives : List ℕ) (saids : List Said) (n i : ℕ) → i < n
     → get_or (fault_lines c representatives saids n) i [] ≡ fault_line c representatives i (said_at saids i)
 get_or-fault_lines c representatives saids n i below =
     get_or-map-range_with_len (λ k. fault_line c representatives k (said_at saids k)) 0 n i i [] below (omega arith)
 
+-- the lines of one fault more are those before it and then its own
 pub fault_lines_more : (c : Netlist) (representatives : List ℕ) (saids : List Said) (n : ℕ)
     → fault_lines c representatives saids (n + 1)
     ≡ fault_lines c representatives saids n ++ fault_line c representatives n (said_at saids n) ∷ []

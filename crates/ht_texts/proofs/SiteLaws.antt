@@ -15,6 +15,7 @@ fault_site_is_line c (Stem x) is = is
 fault_site_is_line c (DffPin j) is = is.0
 fault_site_is_line c (GatePin g i) is = (is.0, is.1)
 
+-- the site of each fault of the list is a line of the circuit
 pub fault_is_on_line : (c : Netlist) (i : ℕ) → i < length (faults_of c) → IsSite c (fault_at c i).site
 fault_is_on_line c i inside = fault_site_is_line c (fault_at c i).site (fault_site c i inside)
 

@@ -17,6 +17,7 @@ head_same x y xs ys e = cc
 tail_same : (x y : Option Tern) (xs ys : List (Option Tern)) → x ∷ xs ≡ y ∷ ys → xs ≡ ys
 tail_same x y xs ys e = cc
 
+-- lists of three-valued values are the same if they are with each value in a `Some`
 pub somes_same : (a b : List Tern) → (let xs : List (Option Tern) = map Some a in xs ≡ map Some b) → a ≡ b
 somes_same [] [] e = refl
 somes_same [] (y ∷ b) e = cc
@@ -26,6 +27,7 @@ somes_same (x ∷ a) (y ∷ b) e =
     let rest = somes_same a b (tail_same (Some x) (Some y) (map Some a) (map Some b) e) in
     cc
 
+-- a line is that of at most one start
 pub one_start : (width : ℕ) (line : List ℕ) (a b : List Tern) → IsStartLine width line a → IsStartLine width line b
     → a ≡ b
 one_start width line a b is other = somes_same a b (sym is.characters ∙ other.characters)
@@ -41,6 +43,7 @@ some_at (x ∷ line) (v ∷ start) (suc k) is below none =
     some_at line start k (tail_same (start_value x) (Some v) (map start_value line) (map Some start) is)
     (omega arith) none
 
+-- a line with a character that has no value is the line of no start
 pub no_value_no_start : (width : ℕ) (line : List ℕ) (k : ℕ) → k < length line → start_value (get_or line k 0) ≡ None
     → (start : List Tern) → ¬ IsStartLine width line start
 no_value_no_start width line k below none start is = some_at line start k is.characters below none
@@ -67,6 +70,7 @@ values_or_none (x ∷ line) = elim (option_cases (start_value x)) [
   ]
 ]
 
+-- each line is that of a start, or of none
 pub start_or_none : (width : ℕ) (line : List ℕ) → ((start : List Tern) × IsStartLine width line start)
     ⊎ ((start : List Tern) → ¬ IsStartLine width line start)
 start_or_none width line = elim (cases_eq (length line) width) [
@@ -86,6 +90,7 @@ start_or_none width line = elim (cases_eq (length line) width) [
 
 -- ---- the text
 
+-- each text is that of a start, or malformed at some line
 pub text_or_malformed : (width : ℕ) (text : List ℕ)
     → ((start : List Tern) × IsStartText width text start) ⊎ ((n : ℕ) × IsMalformedStart width text n)
 text_or_malformed width text = elim (start_or_none width (line_at text 1)) [
@@ -96,11 +101,13 @@ text_or_malformed width text = elim (start_or_none width (line_at text 1)) [
   ]
 ]
 
+-- the text of a start is malformed at no line
 pub never_both : (width : ℕ) (text : List ℕ) (start : List Tern) (n : ℕ) → IsStartText width text start
     → ¬ IsMalformedStart width text n
 never_both width text start n is (inl first) = first.1 start is.line
 never_both width text start n is (inr second) = let only = is.only in let more = second.1 in omega (arith, only, more)
 
+-- no text is malformed as a start at two lines
 pub one_line : (width : ℕ) (text : List ℕ) (m n : ℕ) → IsMalformedStart width text m → IsMalformedStart width text n
     → m ≡ n
 one_line width text m n (inl a) (inl b) = a.0 ∙ sym b.0
@@ -108,6 +115,7 @@ one_line width text m n (inl a) (inr b) = absurd (a.1 b.2.0 b.2.1)
 one_line width text m n (inr a) (inl b) = absurd (b.1 a.2.0 a.2.1)
 one_line width text m n (inr a) (inr b) = a.0 ∙ sym b.0
 
+-- each text is that of one start or malformed at one line, and never both
 pub start_or_malformed : (width : ℕ) (text : List ℕ) → IsStartOrMalformed width text
 start_or_malformed width text = record {
   either = text_or_malformed width text;

@@ -21,6 +21,7 @@ pub record StopsCoded {A : Type 0} (code : A → ℕ) (width : ℕ) (lines : Lis
   pub none : (values : List A) → ¬ IsCoded code width (get_or lines k []) values
   pub before : (j : ℕ) → j < k → (values : List A) × IsCoded code width (get_or lines j []) values
 
+-- where each character is a value's or no value's, all lines are those of values, or there is a first that isn't
 pub coded_or_stop : {A : Type 0} (code : A → ℕ)
     → ((x : ℕ) → ((value : A) × (x ≡ code value)) ⊎ ((value : A) → x ≢ code value)) → (width : ℕ) (lines : List (List ℕ))
     → ((list : List (List A)) × AreCodedLines code width lines list) ⊎ ((k : ℕ) × StopsCoded code width lines k)
@@ -72,12 +73,14 @@ AreVectorLines width lines list = AreCodedLines bit_code width lines list
 abbrev pub StopsAt : ℕ → List (List ℕ) → ℕ → Type 0
 StopsAt width lines k = StopsCoded bit_code width lines k
 
+-- all lines are those of vectors, or there is a first that isn't
 pub vectors_or_stop : (width : ℕ) (lines : List (List ℕ)) → ((list : List (List Bool)) × AreVectorLines width lines list)
     ⊎ ((k : ℕ) × StopsAt width lines k)
 vectors_or_stop = coded_or_stop bit_code bit_or_none
 
 -- ---- where no line is wrong by itself, and where one is
 
+-- no line is wrong by itself in a text whose lines are all those of vectors
 pub no_wrong_line : (c : Netlist) (text : List ℕ) (list : List (List Bool)) → AreVectorLines c.inputs (lines_of text) list
     → (n : ℕ) → ¬ IsNoVector c text n
 no_wrong_line c text list are n bad =
@@ -91,6 +94,7 @@ no_wrong_before c text k n stop upto bad =
     let found = stop.before (n - 1) (omega (arith, bad.counted.0)) in
     bad.none found.0 found.1
 
+-- the line at which the reading of vectors stops is wrong by itself
 pub wrong_at : (c : Netlist) (text : List ℕ) (k : ℕ) → StopsAt c.inputs (lines_of text) k → IsNoVector c text (k + 1)
 wrong_at c text k stop = record {
   counted = (omega arith, omega (arith, stop.within));

@@ -69,6 +69,7 @@ same_sums s t classes detected untestable aborted undetectable undetected search
     ∙ ap (λ l. sums t.classes t.detected t.untestable t.aborted t.undetectable l s.search) undetected
     ∙ ap (λ b. sums t.classes t.detected t.untestable t.aborted t.undetectable t.undetected b) searched
 
+-- two lists of verdicts have the same sums over the first n faults if each representative has the same kind in both
 pub sums_agree : (representatives : List ℕ) (a b : List Said) (of_search : Bool) (n : ℕ)
     → ((i : ℕ) → i < n → is_representative representatives i ≡ true → SameKind (said_at a i) (said_at b i))
     → sums_among representatives a of_search (representatives_below representatives n)

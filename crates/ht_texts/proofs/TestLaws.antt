@@ -8,10 +8,12 @@ use Rattle.ht_texts.proofs.StopLaws.{AreVectorLines, vectors_or_stop, no_wrong_l
 use Rattle.ht_texts.proofs.CodedLaws.{map_injective}
 use Rattle.ht_texts.proofs.VectorLaws.{vector_text_injective}
 
+-- a text is the test text of at most one list of vectors
 pub one_list : (c : Netlist) (text : List ℕ) (a b : List (List Bool)) → IsTestText c text a → IsTestText c text b → a
     ≡ b
 one_list c text a b is_a is_b = map_injective vector_text vector_text_injective a b (sym is_a.lines ∙ is_b.lines)
 
+-- a test text is malformed at no line
 pub never_both : (c : Netlist) (text : List ℕ) (list : List (List Bool)) (n : ℕ) → IsTestText c text list
     → ¬ IsMalformedTest c text n
 never_both c text list n is malformed = elim malformed.wrong [
@@ -32,6 +34,7 @@ vectors_or_first c text = elim (vectors_or_stop c.inputs (lines_of text)) [
   )
 ]
 
+-- each text is the test text of some list of vectors, or malformed at some line
 pub list_or_line : (c : Netlist) (text : List ℕ) → ((list : List (List Bool)) × IsTestText c text list)
     ⊎ ((n : ℕ) × IsMalformedTest c text n)
 list_or_line c text = elim (first_of_both (IsNoVector c text) (IsTooLong text)

@@ -12,6 +12,7 @@ bit_code_injective false true e = absurd (omega (arith, e))
 bit_code_injective true false e = absurd (omega (arith, e))
 bit_code_injective true true e = refl
 
+-- three-valued values with the same character are the same
 pub tern_code_injective : (a b : Tern) → tern_code a ≡ tern_code b → a ≡ b
 tern_code_injective Zero Zero e = refl
 tern_code_injective Zero One e = absurd (omega (arith, e))
@@ -23,6 +24,7 @@ tern_code_injective Unk Zero e = absurd (omega (arith, e))
 tern_code_injective Unk One e = absurd (omega (arith, e))
 tern_code_injective Unk Unk e = refl
 
+-- vectors with the same text are the same
 pub vector_text_injective : (a b : List Bool) → vector_text a ≡ vector_text b → a ≡ b
 vector_text_injective = map_injective bit_code bit_code_injective
 

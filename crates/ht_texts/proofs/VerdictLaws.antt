@@ -46,6 +46,7 @@ kind_is_told c Undetected = refl
 abbrev pub SameKind : Said → Said → Type 0
 SameKind a b = kind_number a ≡ kind_number b
 
+-- verdicts with the same text are of the same kind
 pub same_kind : (c : Netlist) (a b : Said) → verdict_text c a ≡ verdict_text c b → SameKind a b
 same_kind c a b e = sym (kind_is_told c a) ∙ ap told_kind e ∙ kind_is_told c b
 
@@ -133,6 +134,7 @@ number_and_name n name small =
       name_is = drop-append-add (decimal n) (32 ∷ name) 1;
     }
 
+-- the first space in the text of a place parts the number of its vector from the name of its output
 pub place_parts : (c : Netlist) (text : List ℕ) (place : Place) → IsPlace c place → text ≡ place_text c place
     → NumberAndName text (place.vector + 1) (output_text c place.output)
 place_parts c text place is_place is =
@@ -152,6 +154,7 @@ pub record SplitPlace (c : Netlist) (text : List ℕ) (k : ℕ) (place : Place) 
   pub number : take k text ≡ decimal (place.vector + 1)
   pub name : drop (k + 1) text ≡ output_text c place.output
 
+-- the text of a place has the number of its vector before its first space, and the name of its output after it
 pub split_place : (c : Netlist) (text : List ℕ) (k : ℕ) (place : Place) → position is_space text ≡ Some k
     → IsPlace c place → text ≡ place_text c place → SplitPlace c text k place
 split_place c text k place at is_place e =
@@ -162,6 +165,7 @@ split_place c text k place at is_place e =
       name = subst (λ i. drop (i + 1) text ≡ output_text c place.output) same parts.name_is;
     }
 
+-- a text whose first space parts the number of a vector from the name of an output is that of their place
 pub join_place : (c : Netlist) (text : List ℕ) (k : ℕ) (place : Place) → position is_space text ≡ Some k
     → SplitPlace c text k place → text ≡ place_text c place
 join_place c text k place at split =
@@ -190,6 +194,7 @@ differ_at_once xs i j d differ i_in j_in e = elim (cases_order i j) [
   | inr (inr above) ↦ absurd (differ j i d above i_in (sym e))
 ]
 
+-- outputs of a circuit with the same name are the same
 pub one_output : (c : Netlist) (o p : ℕ) → IsCircuit c → o < length c.outputs → p < length c.outputs
     → output_text c o ≡ output_text c p → o ≡ p
 one_output c o p is o_in p_in e =

@@ -12,6 +12,7 @@ bit_plain : (bit : Bool) → is_line_byte (bit_code bit) ≡ true
 bit_plain false = refl
 bit_plain true = refl
 
+-- what is written of a list of vectors of the circuit is its test text, if that isn't too long
 pub written_is_test_text : (c : Netlist) (list : List (List Bool))
     → All (λ (vector : List Bool). length vector ≡ c.inputs) list
     → length (test_text list) ≤ max_text_bytes → IsTestText c (test_text list) list
@@ -21,6 +22,7 @@ written_is_test_text c list widths short = record {
   short = short;
 }
 
+-- what is written of a list of vectors of the circuit is malformed at no line, if it isn't too long
 pub written_is_not_malformed : (c : Netlist) (list : List (List Bool)) (n : ℕ)
     → All (λ (vector : List Bool). length vector ≡ c.inputs) list
     → length (test_text list) ≤ max_text_bytes → ¬ IsMalformedTest c (test_text list) n

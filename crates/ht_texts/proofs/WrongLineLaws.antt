@@ -7,6 +7,7 @@ use Rattle.ht_ports.specs.LineRule.{lines_of, max_text_bytes}
 use Rattle.ht_texts.specs.Tests.{IsTooLong, line_at, line_of_byte}
 use Rattle.ht_texts.specs.WrongLines.{IsFirst, IsNoNextLine}
 
+-- at most one line is the first that is wrong
 pub one_first : (IsWrong : ℕ → Type 0) (m n : ℕ) → IsFirst IsWrong m → IsFirst IsWrong n → m ≡ n
 one_first IsWrong m n at_m at_n = elim (cases_lt m n) [
   | inl below ↦ absurd (at_n.first m below at_m.wrong)
@@ -59,6 +60,7 @@ first_of_both P Q no_p no_q (inr (m, p)) (inr (n, q)) = elim (cases_lt m n) [
 
 -- ---- too long
 
+-- a text is no longer than a text may be, or there is a first line in which it gets too long
 pub short_or_long : (text : List ℕ) → RightOrFirst (length text ≤ max_text_bytes) (IsTooLong text)
 short_or_long text = elim (cases_lt max_text_bytes (length text)) [
   | inr short ↦ inl short
@@ -71,11 +73,13 @@ short_or_long text = elim (cases_lt max_text_bytes (length text)) [
   )
 ]
 
+-- a text that is no longer than a text may be gets too long in no line
 pub short_is_right : (text : List ℕ) → length text ≤ max_text_bytes → (n : ℕ) → ¬ IsTooLong text n
 short_is_right text short n wrong = omega (arith, short, wrong.long)
 
 -- ---- lines that begin a text of a kind
 
+-- the first m of the first k lines are the first m lines, where m is at most k
 pub take_again : (m k : ℕ) (lines : List (List ℕ)) → m ≤ k → k ≤ length lines → take m (take k lines) ≡ take m lines
 take_again m k lines within inside =
     sym (take-append-le m (take k lines) (drop k lines) (omega (arith, within, length-take-le k lines inside)))
@@ -90,6 +94,7 @@ module _ (BeginsSo : List (List ℕ) → Type 0)
       wrong.none (subst BeginsSo (take_again m n (lines_of text) within inside)
       (front_begins (take n (lines_of text)) m begins))
 
+  -- where the lines of a text begin one of the kind, none of them is wrong
   pub all_is_right : (text : List ℕ) → BeginsSo (lines_of text) → (n : ℕ) → ¬ IsNoNextLine BeginsSo text n
   all_is_right text begins n wrong =
       begun_is_right text (length (lines_of text)) n (subst BeginsSo (sym (take-length (lines_of text))) begins)
@@ -134,6 +139,7 @@ module _ (BeginsSo : List (List ℕ) → Type 0)
           ]
         ]
 
+    -- the lines of a text begin one of the kind, or there is a first line that none of the kind has there
     pub begun_or_first : (text : List ℕ) → RightOrFirst (BeginsSo (lines_of text)) (IsNoNextLine BeginsSo text)
     begun_or_first text = subst (λ l. RightOrFirst (BeginsSo l) (IsNoNextLine BeginsSo text)) (take-length (lines_of text))
         (begun_to text (length (lines_of text)) (omega arith))

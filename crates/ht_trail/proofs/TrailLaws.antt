@@ -22,9 +22,11 @@ pub restored_append : {V : Type 0} → (values : List V) (xs ys : List (Saved V)
 restored_append values [] ys = refl
 restored_append {V} values (x ∷ xs) ys = ap (λ (v : List V). set v x.index x.value) (restored_append values xs ys)
 
+-- cells are later than themselves by no change
 pub later_now : {V : Type 0} → (a : CellsState V) → IsLater a a
 later_now a = record { since = []; trail = sym (append-nil a.trail); values = refl }
 
+-- cells that are later than later ones are later than the first
 pub later_more : {V : Type 0} → (a b c : CellsState V) → IsLater a b → IsLater b c → IsLater a c
 later_more {V} a b c f g = record {
   since = f.since ++ g.since;
@@ -42,6 +44,7 @@ part_pop {X} (x ∷ xs) (t ∷ all) s h =
     let rest : xs ≡ take (length xs) all = part_pop xs all s (ap (λ (l : List X). drop 1 l) h) in
     (λ i. here i ∷ rest i)
 
+-- a trail without its last change keeps its indices below the same number
 pub within_pop : {V : Type 0} → (n m : ℕ) (xs old : List (Saved V)) (s : Saved V) → old ≡ xs ++ s ∷ [] → m ≡ n
     → IsTrailBelow n old → IsTrailBelow m xs
 within_pop {V} n m xs old s is same h = λ k d less.
@@ -52,6 +55,7 @@ within_pop {V} n m xs old s is same h = λ k d less.
     let q : (get_or old k d).index < n = h k d (omega (arith, long, less)) in
     omega (arith, p, q, same)
 
+-- there are as many values before the changes on a trail as after them
 pub restored_length : {V : Type 0} → (values : List V) (trail : List (Saved V)) → length (restored values trail)
     ≡ length values
 restored_length values [] = refl
@@ -67,6 +71,7 @@ later_mark {V} a b f m h =
     ∙ (restored_append b.values (drop m a.trail) f.since
     ∙ ap (λ (v : List V). restored v (drop m a.trail)) f.values))
 
+-- what the cells held at the mark of the whole trail is what they hold now
 pub mark_now : {V : Type 0} → (c : CellsState V) → at_mark c (length c.trail) ≡ c.values
 mark_now c = ap (restored c.values) (drop_all (length c.trail) c.trail (omega arith))
 

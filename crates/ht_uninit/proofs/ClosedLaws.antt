@@ -50,6 +50,7 @@ module _ (c : Netlist) (u : ℕ → Bool) (closed : IsClosedSet c u) where
       closed.stays (nth list f) (state_in c None (unknown_state c) list f) (wide f (omega arith))
       (state_held c None (unknown_state c) list f (unknown_held c)) (frame_unknown list wide f (omega arith)) j l inside
 
+  -- the flip-flops of a closed set are unknown after every list of vectors
   pub closed_stays : StayUnknown c u
   closed_stays list j l inside =
       let start = unknown_state c in

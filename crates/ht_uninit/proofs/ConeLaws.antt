@@ -125,11 +125,13 @@ module _ (c : Netlist) (fault : Fault) (s : ℕ → Bool) (closed : IsForwardClo
         value_alike (net_value_within k c (tern_rules None) vector good)
         (net_value_within k c (tern_rules (Some fault)) vector faulty) x out (λ y o. within_alike k y o)
 
+    -- a net outside the set has the same value in both machines, if their states are alike
     pub net_alike : (x : ℕ) → s x ≡ false → net_value c (tern_rules None) vector good x
         ≡ net_value c (tern_rules (Some fault)) vector faulty x
     unfolding net_value
     net_alike x out = within_alike (suc (length c.gates)) x out
 
+    -- states that are alike have next states that are
     pub next_alike : AreAlike (next_state c (tern_rules None) vector good)
         (next_state c (tern_rules (Some fault)) vector faulty)
     next_alike j l out =

@@ -120,6 +120,7 @@ module _ (c : Netlist) (mute : ℕ → Bool) (outputs : ℕ) (marks : List Bool)
       by true e = old_mark n e
       by false e = new_mark n l out
 
+-- a net that is marked, and waits if it wasn't marked before, leaves as much to do
 pub work_more : (marks : List Bool) (todo : List NetId) (n : NetId) → n.0 < length marks
     → work_left (set marks n.0 true) (waiting_after marks todo n) ≡ work_left marks todo
 work_more marks todo n l = by (is_marked marks n.0) refl
@@ -137,6 +138,7 @@ work_more marks todo n l = by (is_marked marks n.0) refl
 -- ---- what the driver of a net reads
 
 module _ (c : Netlist) (mute : ℕ → Bool) where
+  -- the arguments of a gate lead out if its net does
   pub leads_argument : (g i : ℕ) → g < length c.gates → i < length (gate_at c g).args
       → LeadsOut c mute (first_gate_net c + g) → LeadsOut c mute (arg_at c g i)
   leads_argument g i l m out = record {
@@ -146,6 +148,7 @@ module _ (c : Netlist) (mute : ℕ → Bool) where
     cone = λ s closed is. out.cone s closed (closed.gates g i l m is);
   }
 
+  -- the net at a flip-flop's data pin leads out if the flip-flop's net does
   pub leads_data : (j : ℕ) → j < length c.dffs → LeadsOut c mute (c.inputs + j) → LeadsOut c mute (data_net c j)
   leads_data j l out = record {
     output = out.output;
@@ -154,6 +157,7 @@ module _ (c : Netlist) (mute : ℕ → Bool) where
     cone = λ s closed is. out.cone s closed (closed.dffs j l is);
   }
 
+  -- an output that isn't mute leads out
   pub leads_output : (o : ℕ) → o < length c.outputs → mute o ≡ false → LeadsOut c mute (output_net c o)
   leads_output o l heard = record { output = o; known = l; heard = heard; cone = λ s closed is. is }
 
@@ -239,6 +243,7 @@ module _ (c : Netlist) (mute : ℕ → Bool) (outputs : ℕ) (marks : List Bool)
       off a y i done (inr (inl w)) = inr (inl w)
       off a y i done (inr (inr b)) = inl (done b.0 b.1)
 
+  -- a gate whose pins are all done is no longer busy
   pub gate_done : (g pin : ℕ) → pin ≡ length (gate_at c g).args
       → AreExposed c mute outputs marks todo (first_gate_net c + g) pin
       → AreExposed c mute outputs marks todo (nothing c) 0
@@ -250,12 +255,14 @@ module _ (c : Netlist) (mute : ℕ → Bool) (outputs : ℕ) (marks : List Bool)
       absurd (omega (arith, m, few, all, long)))
       (λ j l e. absurd (omega (arith, e, l)))
 
+  -- a flip-flop is no longer busy after the net at its data pin is marked
   pub latch_done : (j : ℕ) → j < length c.dffs → is_marked marks (data_net c j) ≡ true
       → AreExposed c mute outputs marks todo (c.inputs + j) 0 → AreExposed c mute outputs marks todo (nothing c) 0
   latch_done j l read =
       let_go (c.inputs + j) 0 (λ k i m n e few. absurd (omega (arith, e, l)))
       (λ k m e. let same : j ≡ k = omega (arith, e) in subst (λ (n : ℕ). is_marked marks (data_net c n) ≡ true) same read)
 
+  -- an input that was taken up is no longer busy
   pub input_done : (x : ℕ) → x < c.inputs → AreExposed c mute outputs marks todo x 0
       → AreExposed c mute outputs marks todo (nothing c) 0
   input_done x l =
@@ -333,6 +340,7 @@ module _ (c : Netlist) (mute : ℕ → Bool) (outputs : ℕ) (marks marks' : Lis
       (subst (λ (t : List NetId). AreExposed c mute outputs (set marks n.0 true) t busy pin) (sym on)
       (mark_more c mute outputs marks todo busy pin h n inside out))
 
+  -- after the net at the next pin of the busy gate is marked, that pin is done
   pub argument_step : (g i : ℕ) → g < length c.gates → i < length (gate_at c g).args → n.0 ≡ arg_at c g i
       → AreExposed c mute outputs marks todo (first_gate_net c + g) i
       → AreExposed c mute outputs marks' todo' (first_gate_net c + g) (i + 1)
@@ -341,6 +349,7 @@ module _ (c : Netlist) (mute : ℕ → Bool) (outputs : ℕ) (marks marks' : Lis
       pin_done c mute outputs marks' todo' g i l (sym (ap (is_marked marks') at) ∙ marked_new)
       (more (first_gate_net c + g) i h (subst (LeadsOut c mute) (sym at) (leads_argument c mute g i l m out)))
 
+  -- after the net at the data pin of the busy flip-flop is marked, no net is busy
   pub latch_step : (x : ℕ) → c.inputs ≤ x → x < first_gate_net c → n.0 ≡ data_net c (x - c.inputs)
       → AreExposed c mute outputs marks todo x 0 → AreExposed c mute outputs marks' todo' (nothing c) 0
   latch_step x low high at h =
@@ -352,6 +361,7 @@ module _ (c : Netlist) (mute : ℕ → Bool) (outputs : ℕ) (marks marks' : Lis
       latch_done c mute outputs marks' todo' j l (sym (ap (is_marked marks') at) ∙ marked_new)
       (more (c.inputs + j) 0 here (subst (LeadsOut c mute) (sym at) (leads_data c mute j l out)))
 
+  -- after the net at the next output, which isn't mute, is marked, one output more is done
   pub output_step : outputs < length c.outputs → mute outputs ≡ false → n.0 ≡ output_net c outputs
       → AreExposed c mute outputs marks todo (nothing c) 0
       → AreExposed c mute (outputs + 1) marks' todo' (nothing c) 0
@@ -359,10 +369,12 @@ module _ (c : Netlist) (mute : ℕ → Bool) (outputs : ℕ) (marks marks' : Lis
       output_done c mute outputs marks' todo' (inr (sym (ap (is_marked marks') at) ∙ marked_new))
       (more (nothing c) 0 h (subst (LeadsOut c mute) (sym at) (leads_output c mute outputs l heard)))
 
+-- a step that marks a net, and lets it wait if it wasn't marked before, leaves as much to do
 pub work_step : (marks marks' : List Bool) (todo todo' : List NetId) (n : NetId) → marks' ≡ set marks n.0 true
     → todo' ≡ waiting_after marks todo n → n.0 < length marks → work_left marks' todo' ≡ work_left marks todo
 work_step marks marks' todo todo' n is on inside = (λ k. work_left (is k) (on k)) ∙ work_more marks todo n inside
 
+-- the last net that waits is one of the circuit
 pub pop_known : (c : Netlist) (mute : ℕ → Bool) (outputs : ℕ) (marks : List Bool) (todo : List NetId) (n : NetId)
     → AreExposed c mute outputs marks (todo ++ n ∷ []) (nothing c) 0 → n.0 < net_count c
 pop_known c mute outputs marks todo n h =

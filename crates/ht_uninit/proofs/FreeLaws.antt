@@ -211,6 +211,7 @@ in_member j (x ∷ xs) h = elim (eqb_tells x j) [
   | inr e ↦ inr (in_member j xs (sym (ap (λ (b : Bool). b || is_in xs j) e.0) ∙ h))
 ]
 
+-- a flip-flop that isn't removed is in the set that is left
 pub left_in : (c : Netlist) (removed : List Removed) (j : ℕ) → j < length c.dffs → is_removed removed j ≡ false
     → is_in (held_after c removed) j ≡ true
 left_in c removed j l out =
@@ -222,6 +223,7 @@ not_true : (b : Bool) → not b ≡ true → b ≡ false
 not_true true h = cc
 not_true false h = refl
 
+-- a member of the set that is left is a flip-flop of the circuit and isn't removed
 pub in_left : (c : Netlist) (removed : List Removed) (j : ℕ) → is_in (held_after c removed) j ≡ true
     → (j < length c.dffs) × (is_removed removed j ≡ false)
 in_left c removed j h =

@@ -70,6 +70,7 @@ hidden_at c mute marks tells faults (k ∷ which) zero fault l is = (
 hidden_at c mute marks tells faults (k ∷ which) (suc i) fault l is =
     hidden_at c mute marks tells faults which i fault (omega (arith, l)) is
 
+-- after the last round, what the outputs came to and the hidden faults are the record of the given faults
 pub whole_record : (c : Netlist) (budget : ℕ) (faults : List Fault) (which : List ℕ) (r : UninitState) (marks : List Bool)
     → (held : HeldState) → IsFinished c budget held r.removed r.walks
     → length r.outs ≡ length c.outputs → AreOutputs c budget held.members (length c.outputs) r.outs

@@ -112,6 +112,7 @@ pub all_given : (faults : List Fault) (which : List ℕ) → which ≡ range_wit
 all_given faults which is = ap (given_faults faults) is
     ∙ sym (fill_by_all (λ k. get_or faults k no_fault) faults (length faults) no_fault refl (λ k inside. refl))
 
+-- the numbers of a whole list are below its length
 pub all_known : (n : ℕ) (which : List ℕ) → which ≡ range_with_len 0 n → All (λ k. k < n) which
 all_known n which is = subst (All (λ k. k < n)) (sym is) (All-from_get_or (λ k. k < n) (range_with_len 0 n) 0 (λ i inside.
     let within : i < n = omega (arith, inside, length-range_with_len 0 n) in

@@ -36,6 +36,7 @@ neither true b = refl
 neither false true = refl
 neither false false = refl
 
+-- one removal more leaves the set without that flip-flop
 pub held_push : (c : Netlist) (removed : List Removed) (r : Removed)
     → held_after c (removed ++ r ∷ []) ≡ without (held_after c removed) (removed_dff r)
 held_push c removed r =
@@ -53,6 +54,7 @@ few_without (x ∷ u) j = by (eqb j x) (few_without u j)
     by true h = omega (arith, h)
     by false h = omega (arith, h)
 
+-- a set without one of its members is smaller
 pub fewer_without : (u : List ℕ) (j : ℕ) → is_in u j ≡ true → length (without u j) + 1 ≤ length u
 fewer_without [] j h = cc
 fewer_without (x ∷ u) j h = elim (eqb_tells x j) [
@@ -100,12 +102,15 @@ module _ (c : Netlist) (budget before j : ℕ) (held : HeldState) (removed : Lis
   stranger_gone l out =
       true_from_ne_false (is_removed removed j) (λ e. false≢true (sym out ∙ (in_set ∙ left_in c removed j l e)))
 
+  -- a flip-flop of the circuit is one of the held window's
   pub dff_inside : j < length c.dffs → j < length held.circuit.dffs
   dff_inside l = subst (λ (n : Netlist). j < length n.dffs) (sym h.circuit) l
 
+  -- the list of walks has an entry for each flip-flop
   pub dff_walk : j < length c.dffs → j < length walks
   dff_walk l = let long = h.long in omega (arith, l, long)
 
+  -- a flip-flop that isn't a member is passed
   pub at_passes : j < length c.dffs → is_in held.members j ≡ false
       → IsAt c budget before (j + 1) held removed walks
   at_passes l out =
@@ -128,6 +133,7 @@ module _ (c : Netlist) (budget before j : ℕ) (held : HeldState) (removed : Lis
 
   module _ (held' : HeldState) (circuit : held'.circuit ≡ c) (fresh : held'.path ≡ []) (l : j < length c.dffs)
       (is : is_in held.members j ≡ true) where
+    -- a member whose search closes stays in the set and has its walk
     pub at_keeps : held'.members ≡ held.members → (tokens : List Token)
         → ClosesUnknown c budget held.members (data_net c j) tokens → (walks' : List (Option (List Token)))
         → walks' ≡ set walks j (Some tokens)
@@ -164,6 +170,7 @@ module _ (c : Netlist) (budget before j : ℕ) (held : HeldState) (removed : Lis
           ];
         }
 
+    -- a member that is removed for a reason leaves the set and has no walk
     pub at_removes : held'.members ≡ without held.members j → (r : Removed) → removed_dff r ≡ j
         → IsRemoval c budget held.members r → (removed' : List Removed) → removed' ≡ removed ++ r ∷ []
         → (walks' : List (Option (List Token))) → walks' ≡ set walks j None

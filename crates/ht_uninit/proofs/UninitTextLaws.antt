@@ -57,6 +57,7 @@ removal_more removed i r before after whole l is left more =
     ∙ (ap (λ (x : Removed). before ++ (removal_text x ++ rest)) is
     ∙ (ap (λ (rs : List Removed). before ++ flat_map removal_text rs) (sym (drop_more removed i r l)) ∙ left)))
 
+-- the head line, removals, walks, outputs and faults, one after the other, are the text without its last line
 pub body_appended : (c : Netlist) (representatives : List ℕ) (budget : ℕ) (r : UninitState)
     → (b0 b1 b2 b3 b4 b5 : List ℕ) (dffs outputs faults classes : ℕ) → b0 ≡ []
     → b1 ≡ b0 ++ with_lf (uninit_head dffs outputs faults classes budget) → b2 ≡ b1 ++ flat_map removal_text r.removed

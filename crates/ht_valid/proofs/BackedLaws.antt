@@ -32,6 +32,7 @@ pub valid_latches : (c : Netlist) (representatives : List ℕ) (start : List Ter
 valid_latches c representatives start tests report proofs content latches valid =
     ap (λ (s : List Tern). length s) valid.stated ∙ latches
 
+-- in what is justified, an entry backs what is said of each representative that needs one
 pub justified_backs : (c : Netlist) (representatives : List ℕ) (content : Content) (i : ℕ)
     → IsJustified c representatives content → IsOwn c representatives i
     → IsBackedIfNeeded c content i (said_at content.saids i)

@@ -49,6 +49,7 @@ steps_have_hints clauses (step ∷ steps) pass =
 some_cube : {A : Type 0} (cubes : List (List Rail)) → 0 < length cubes → cubes ≡ [] → A
 some_cube cubes some e = absurd (omega (arith, some, ap length e))
 
+-- an entry by cubes that refutes a fault has a text, if its lines are short
 pub cubes_have_text : (c : Netlist) → IsCircuit c → (fault : Fault) (start : List Tern) (cubes : List (List Rail))
     (steps : List ClauseStep) → RefutesByCubes c fault start cubes steps → AreShort cubes steps
     → IsByCubesText (record { cubes = cubes; steps = steps })

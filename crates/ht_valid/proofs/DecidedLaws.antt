@@ -83,6 +83,7 @@ module _ (c : Netlist) (content : Content) (i : ℕ) (circuit : IsCircuit c) (la
       absurd (short_unaborted d list t o few detects enough by.entry by.backs)
   short_said d list t o few detects enough Undetected worked agrees backed = absurd (worked refl)
 
+-- in what is justified, a budget that is enough decides each representative that was worked on
 pub are_decided : (c : Netlist) (representatives : List ℕ) (content : Content) → IsCircuit c → IsStart c content.start
     → IsJustified c representatives content → AreDecided c representatives (IsWorkedOn content) content
 are_decided c representatives content circuit latches is i own worked =

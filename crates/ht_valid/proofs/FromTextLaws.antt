@@ -44,6 +44,7 @@ module _ (c : Netlist) (circuit : IsCircuit c) where
       let inside = (All-head (IsClause c) clause clauses are).first in
       omega (arith, inside)
 
+  -- an entry that refutes a fault from a state has a text
   pub from_state_has_text : (fault : Fault) (state : List Bool) (clauses : List Clause) (z : List ℕ)
       (tokens : List Token) → RefutesFrom c fault state clauses z tokens
       → IsFromStateText (record { state = state; clauses = clauses; z = z; walk = Some tokens })

@@ -38,12 +38,15 @@ one_kind kinds.Aborted kinds.Untestable is = absurd cc
 one_kind kinds.Aborted kinds.Undetectable is = absurd cc
 one_kind kinds.Aborted kinds.Aborted is = refl
 
+-- an entry by which the same is said as by a kind is of this kind
 pub kind_said : (kind : EntryKind) (e : Entry) → said_by_kind (kind_of e) ≡ said_by_kind kind → kind_of e ≡ kind
 kind_said kind e = one_kind (kind_of e) kind
 
+-- untestable isn't the kind of abort records
 pub untestable_unspent : kinds.Untestable ≢ kinds.Aborted
 untestable_unspent same = cc
 
+-- undetectable isn't the kind of abort records
 pub undetectable_unspent : kinds.Undetectable ≢ kinds.Aborted
 undetectable_unspent same = cc
 
@@ -125,6 +128,7 @@ module _ (c : Netlist) (r f : Fault) (circuit : IsCircuit c) (same : SameClass c
         undetected = undetected_member means.undetected;
       }
 
+  -- what an entry that is no abort record means of a fault, it means of each fault of the class
   pub member_means : (start : List Tern) (e : Entry) → kind_of e ≢ kinds.Aborted → Means c start r e
       → Means c start f e
   member_means start (entries.Untestable z tokens) refutes means = untestable_member z means

@@ -68,6 +68,7 @@ module _ (c : Netlist) (circuit : IsCircuit c) (fault : Fault) (start : List Ter
       (get_or-map-range_with_len (λ (i : ℕ). row_set rows i (start_set start i)) 0 (length start) j j [] here (omega arith))
       (passes.closes.starts j here))
 
+  -- an entry by sets that passes has a text, if its sets are in order
   pub sets_have_text : AreInOrder rows → IsBySetsText rows
   sets_have_text ordered =
       let some = each_some (length c.dffs) rows (start_set start) passes.rises passes.known sets_some in

@@ -213,6 +213,7 @@ module _ (c : Netlist) (representatives : List ℕ) (start : List Tern) (tests r
       (λ i own. subst (λ l. AgreesWithTests c start l i (said_at content.saids i)) same
       (subst (λ s. AgreesWithTests c s content.list i (said_at content.saids i)) stated (agrees i own)))
 
+  -- valid files have no first trouble
   pub valid_has_no_trouble : (content : Content) (trouble : Trouble)
       → AreValid c representatives start tests report proofs content
       → ¬ IsFirstTrouble c representatives start tests report proofs trouble
@@ -272,6 +273,7 @@ module _ (c : Netlist) (representatives : List ℕ) (start : List Tern) (tests r
     one_fault_read = one_fault (IsFaultTrouble c representatives a) (IsFaultTrouble c representatives b) on_read
         back_read proofs (λ before line. one_number before line c representatives b)
 
+  -- files have one first trouble at most
   pub one_trouble : (t u : Trouble) → IsFirstTrouble c representatives start tests report proofs t
       → IsFirstTrouble c representatives start tests report proofs u → t ≡ u
   one_trouble (Tests n) (Tests m) a b = ap Tests (one_least (IsWrongLine c tests) n m a b)
@@ -298,6 +300,7 @@ module _ (c : Netlist) (representatives : List ℕ) (start : List Tern) (tests r
 
 -- ---- where no report is there
 
+-- tests and proofs that justify what a report may say have no first trouble without it
 pub justified_has_no_trouble : (c : Netlist) (representatives tests proofs : List ℕ) (content : Content)
     (trouble : Trouble) → IsTestText c tests content.list → IsProofText content.entries proofs
     → IsJustified c representatives content
@@ -325,6 +328,7 @@ module _ (c : Netlist) (representatives : List ℕ) (start : List Tern) (budget 
   list_same a b is other before line number =
       subst (λ list. WrongWith list before line number) (one_list c tests a b is other)
 
+  -- tests and proofs without a report have one first trouble at most
   pub one_unjustified : (t u : Trouble) → IsFirstUnjustified c representatives start budget tests proofs t
       → IsFirstUnjustified c representatives start budget tests proofs u → t ≡ u
   one_unjustified (Tests n) (Tests m) a b = ap Tests (one_least (IsWrongLine c tests) n m a b)

@@ -93,6 +93,7 @@ module _ (c : Netlist) (content : Content) (r i : ℕ) (circuit : IsCircuit c) (
       aborted_by by.entry by.among by.backs agrees
   verdict_by Undetected agrees backed = first_of_member None agrees
 
+-- in what is justified, each listed fault has one verdict, and it is true
 pub true_verdicts : (c : Netlist) (representatives : List ℕ) (content : Content) → IsCircuit c
     → AreClasses c representatives → IsStart c content.start → IsJustified c representatives content
     → HaveTrueVerdicts c representatives content

@@ -27,10 +27,12 @@ pub record HasFrames (w : SearchWindow) (path : List Assign3) (n : ℕ) (sets : 
   pub frames : (f x : ℕ) → f < n → x < net_count w.circuit → env_at w sets f x ≡ cell_at w path f x
 
 module _ (w : SearchWindow) (path : List Assign3) where
+  -- the latches of frame 0 are those of the start
   pub first_frame : first_latches w path ≡ latches_at w path 0
   unfolding latches_at
   first_frame = refl
 
+  -- an empty list has the sets of no frame
   pub no_frame : (sets : List (List Pair)) → sets ≡ [] → HasFrames w path 0 sets
   no_frame sets none = record {
     count = (let e = ap length none in omega (arith, e));
@@ -49,6 +51,7 @@ module _ (w : SearchWindow) (path : List Assign3) where
       (λ j l. sets (get_or w.circuit.dffs j no_net).0 (valid.circuit.data_known j l)) in
       taken ∙ ap (latches_at w path) next
 
+  -- with the row of the next frame's cells at the end, the sets are those of one more frame
   pub one_more_frame : (n : ℕ) (sets row more : List (List Pair)) → more ≡ sets ++ row
       → length row ≡ net_count w.circuit
       → ((x : ℕ) → x < net_count w.circuit → get_or row x blank ≡ cell_at w path n x)

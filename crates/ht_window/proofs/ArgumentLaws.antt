@@ -46,6 +46,7 @@ undetermined_single set single tells some differs = elim (leb_tells 2 (length se
       cc
 ]
 
+-- a single set isn't undetermined
 pub determined_single : (set : List Pair) (single : Bool) → IsTrue single ↔ (length set ≡ 1) → single ≡ true
     → is_undetermined set ≡ false
 determined_single set single tells same = elim (leb_tells 2 (length set)) [

@@ -40,6 +40,7 @@ true_member p (q ∷ s) h = by (same_pair p q) refl h (true_member p s)
     by true e k rest = inl (same_pair-true p q e)
     by false e k rest = inr (rest k)
 
+-- a bit that says whether a pair is in a set is `is_member` of them
 pub member_is : (p : Pair) (s : List Pair) (b : Bool) → IsTrue b ↔ IsMember p s → b ≡ is_member p s
 member_is p s b h = agree b (is_member p s) (λ e. member_true p s (h.0 e)) (λ e. h.1 (true_member p s e))
 
@@ -59,6 +60,7 @@ some_push (k ∷ latches) j = elim (leb_tells 1 (suc (length (latches ++ j ∷ [
     [ inl p ↦ p.0 | inr p ↦ let l = p.1 in absurd (omega (arith, l)) ]
 
 module _ (w : SearchWindow) (path : List Assign3) (cube : List Tern) where
+  -- what the latches of a cube show, with one more latch, is what the longer list shows
   pub cube_push : (latches : List ℕ) (j : ℕ) (value : Tern) (set : List Pair) (s : CubeSeen) → s
       ≡ cube_seen_of w path cube latches → value ≡ value_at cube j → set ≡ set_at w path 0 (State j)
       → cube_seen_with s j value set ≡ cube_seen_of w path cube (latches ++ j ∷ [])
@@ -70,6 +72,7 @@ module _ (w : SearchWindow) (path : List Assign3) (cube : List Tern) where
       (λ k. cube_seen_with (is k) j (wanted k) (here k)) ∙
       (λ k. record { some = some k; must = must k; may = may k; undetermined_latch = undetermined k })
 
+  -- a next flip-flop of which the cube wants 0 or 1 adds to what the cube's latches show
   pub latch_kept : (n : ℕ) (value : Tern) (set : List Pair) (s : CubeSeen) → s
       ≡ cube_seen_of w path cube (filter (λ j. is_definite (value_at cube j)) (range_with_len 0 n))
       → value ≡ value_at cube n → is_definite value ≡ true → set ≡ set_at w path 0 (State n)
@@ -83,6 +86,7 @@ module _ (w : SearchWindow) (path : List Assign3) (cube : List Tern) where
       cube_push (filter test (range_with_len 0 n)) n value set s is wanted here ∙ ap (cube_seen_of w path cube)
       (sym more)
 
+  -- a next flip-flop of which the cube wants nothing leaves what the cube's latches show
   pub latch_passed : (n : ℕ) (value : Tern) (s : CubeSeen) → s
       ≡ cube_seen_of w path cube (filter (λ j. is_definite (value_at cube j)) (range_with_len 0 n))
       → value ≡ value_at cube n → is_definite value ≡ false → s

@@ -60,6 +60,7 @@ module _ (w : SearchWindow) (valid : IsWindow w) (relevant : Option RelevantStat
       → is_relevant relevant g y ≡ true
   mattered g y m = sym (ap (λ (o : Option RelevantState). is_relevant o g y) kept) ∙ m
 
+  -- after a decision and the write of its net, each item that doesn't read that net agrees
   pub decided_agrees : (y : ℕ) → y < item_count w.circuit w.frames → ¬ IsReader w.circuit w.frames (var_frame w d.var)
       (var_net w d.var) y → item_agrees b y
   decided_agrees y known free =
@@ -73,6 +74,7 @@ module _ (w : SearchWindow) (valid : IsWindow w) (relevant : Option RelevantStat
       n.frame n.net (mattered g z m)
       (λ at r. free (subst (λ (i : ℕ). IsReader c w.frames (var_frame w d.var) (var_net w d.var) i) n.is r))))
 
+  -- after a decision and the write of its net, each input that matters holds what it gets
   pub decided_inputs : (g i : ℕ) → g < b.standing.window.frames → i < b.standing.window.circuit.inputs
       → MayHold b g i
   decided_inputs g i gs is m =

@@ -27,6 +27,7 @@ latch_first w path values f j at js =
     sym (ap (λ (g : ℕ). get_or (latches_over w path values g) j blank) at ∙
     get_or-map-range_with_len (first_latch w w.start path) 0 (length w.circuit.dffs) j j blank js e)
 
+-- what a flip-flop takes at its data pin in one frame is what its latch has in the next
 pub latch_next : (w : SearchWindow) (path : List Assign3) (values : List (List Pair)) (f g j : ℕ) → f ≡ suc g
     → j < length w.circuit.dffs
     → (result cell : List Pair) (fault : Option Fault) (net : NetId)
@@ -52,6 +53,7 @@ driver_input w path values f x result xs is =
     ∙ sym (driven_input w.circuit (pair_set_rules w.fault) (frame_inputs w path f) (latches_over w path values f)
     (env_at w values f) x xs))
 
+-- what the latches of a frame have for a latch is what drives its net
 pub driver_latch : (w : SearchWindow) (path : List Assign3) (values : List (List Pair)) (f x : ℕ) (result : List Pair)
     → w.circuit.inputs ≤ x → x < first_gate_net w.circuit → result ≡ get_or (latches_over w path values f)
     (x - w.circuit.inputs) blank
@@ -61,6 +63,7 @@ driver_latch w path values f x result at low is =
     is ∙ sym (driven_latch w.circuit (pair_set_rules w.fault) (frame_inputs w path f) (latches_over w path values f)
     (env_at w values f) x at low)
 
+-- the output of a gate over a row with the cells of its frame is what drives its net
 pub driver_gate : (w : SearchWindow) → IsWindow w → (path : List Assign3) (values row : List (List Pair)) (f x : ℕ)
     (result : List Pair) → first_gate_net w.circuit ≤ x → x < net_count w.circuit
     → ((y : ℕ) → y < net_count w.circuit → get_or row y blank ≡ env_at w values f y)

@@ -67,6 +67,7 @@ module _ (a p q : HeldState) (d : Assign3) (valid : IsWindow a.standing.window)
   marks : q.relevant ≡ a.relevant
   marks = qr ∙ pr
 
+  -- with the decision and the set of its net, each item that doesn't read that net agrees
   pub follow_agrees : (y : ℕ) → y < item_count a.standing.window.circuit a.standing.window.frames
       → ¬ IsReader a.standing.window.circuit a.standing.window.frames f x y → item_agrees q y
   follow_agrees y ys free = decided_agrees a.standing.window valid a.relevant closed a.standing.path d a.cells.values count
@@ -75,6 +76,7 @@ module _ (a p q : HeldState) (d : Assign3) (valid : IsWindow a.standing.window)
       (subst (λ (n : ℕ). IsReader a.standing.window.circuit a.standing.window.frames
       (var_frame a.standing.window d.var) n y) (sym net_is) r)))
 
+  -- once all items agree, the cells of the nets that matter are those of the decisions
   pub follow_cells : (r : HeldState) → KeepsHeld q r
       → ((y : ℕ) → y < item_count a.standing.window.circuit a.standing.window.frames → item_agrees r y)
       → AreCells a.standing.window (is_relevant a.relevant) r.standing.path r.cells.values

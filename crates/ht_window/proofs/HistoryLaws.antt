@@ -19,11 +19,13 @@ mark_last : (marks : List ℕ) (cells : CellsState (List Pair)) (k : ℕ) → k 
     ≡ length cells.trail
 mark_last marks cells k h = get_or_push marks (length cells.trail) 0 k (sym h)
 
+-- after the present mark is added, the mark before each decision so far, and before the next, is as it was
 pub mark_before_more : (marks : List ℕ) (a b : CellsState (List Pair)) (k : ℕ) → k ≤ length marks
     → decision_mark (marks ++ length a.trail ∷ []) b k ≡ decision_mark marks a k
 mark_before_more marks a b k h = mark_old (marks ++ length a.trail ∷ []) b k
     (let n = length_push marks (length a.trail) in omega (arith, n, h))
 
+-- the mark before a decision is at most the present one
 pub mark_small : (w : SearchWindow) (is : ℕ → ℕ → Bool) (path : List Assign3) (marks : List ℕ) (cells : CellsState (List Pair))
     → IsHistory w is path marks cells → (k : ℕ) → k ≤ length marks → decision_mark marks cells k ≤ length cells.trail
 mark_small w is path marks cells h k ks = elim (le_or_lt (length marks) k) [
@@ -32,6 +34,7 @@ mark_small w is path marks cells h k ks = elim (le_or_lt (length marks) k) [
       in omega (arith, e, r)
 ]
 
+-- the present cells of a history are those of its decisions
 pub cells_now : (w : SearchWindow) (is : ℕ → ℕ → Bool) (path : List Assign3) (marks : List ℕ) (cells : CellsState (List Pair))
     → IsHistory w is path marks cells → AreCells w is path cells.values
 cells_now w is path marks cells h =
@@ -41,6 +44,7 @@ cells_now w is path marks cells h =
     subst (λ (p : List Assign3). AreCells w is p cells.values) (take_all (length path) path (omega arith))
     (subst (AreCells w is (take (length path) path)) at (h.at (length path) (omega arith)))
 
+-- a history goes on with one more decision, the mark before it and cells that are those of all decisions
 pub history_push : (w : SearchWindow) (is : ℕ → ℕ → Bool) (path after : List Assign3) (d : Assign3) (marks more : List ℕ)
     (a b : CellsState (List Pair))
     → after ≡ path ++ d ∷ [] → more ≡ marks ++ length a.trail ∷ [] → IsLater a b → length a.trail < length b.trail
@@ -91,6 +95,7 @@ mark_cut marks a b n k few ks long =
           (get_or-take n marks k 0 less ∙ sym (mark_old marks a k (omega (arith, less, few))))
     ]
 
+-- back at the mark before decision n, the history is that of the first n decisions
 pub history_undo : (w : SearchWindow) (is : ℕ → ℕ → Bool) (path after : List Assign3) (marks fewer : List ℕ) (a b : CellsState (List Pair))
     (n m : ℕ)
     → n ≤ length path → after ≡ take n path → fewer ≡ take n marks → m ≡ decision_mark marks a n

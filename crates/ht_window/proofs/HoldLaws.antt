@@ -52,11 +52,13 @@ module _ (w : SearchWindow) (valid : IsWindow w) (path : List Assign3) where
               (valid.circuit.known (y - first_gate_net c) j (omega (arith, at, ys)) pin) ne)
         ])
 
+    -- after the write of a cell, each other net that held what it gets and doesn't read that cell still does
     pub others_hold : (g y : ℕ) → g < w.frames → y < net_count w.circuit
         → (w.circuit.inputs ≤ y → ¬ IsReader w.circuit w.frames f x (item_at w.circuit g (y - w.circuit.inputs)))
         → (g ≢ f) ⊎ (y ≢ x) → HoldsValue w path values g y → HoldsValue w path (set values (cell_index w f x) v) g y
     others_hold g y gs ys free ne h = unwritten w values count f x v fs xs g y ys ne ∙ (h ∙ unread g y gs ys free)
 
+    -- a net whose cell is written with what it gets holds what it gets
     pub self_holds : v ≡ value_over w path values f x → HoldsValue w path (set values (cell_index w f x) v) f x
     self_holds is = written w values count f x v fs xs ∙
         (is ∙ unread f x fs xs (λ at. not_self w.circuit valid.circuit w.frames f x at xs))

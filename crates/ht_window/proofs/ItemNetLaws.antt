@@ -11,6 +11,7 @@ pub record DrivesNet (c : Netlist) (k item : ℕ) : Type 0 where
   pub net : driven_net c (local_of c item) < net_count c
   pub is : item_at c (frame_of c item) (driven_net c (local_of c item) - c.inputs) ≡ item
 
+-- each item of k frames drives a net of one of them, and is the item of that net
 pub item_net : (c : Netlist) (k item : ℕ) → item < item_count c k → DrivesNet c k item
 item_net c k item known =
     let l = local_of c item in
@@ -26,6 +27,7 @@ item_net c k item known =
 net_of : (c : Netlist) (y : ℕ) → c.inputs ≤ y → driven_net c (y - c.inputs) ≡ y
 net_of c y at = omega (arith, at)
 
+-- a net whose item agrees holds what it gets, where it matters
 pub agrees_net : (h : HeldState) (g y : ℕ) → h.standing.window.circuit.inputs ≤ y
     → y < net_count h.standing.window.circuit
     → item_agrees h (item_at h.standing.window.circuit g (y - h.standing.window.circuit.inputs))

@@ -57,12 +57,14 @@ three_small c unknown var h = cc
 three_small c (state_pair good faulty) var h = cc
 three_small c (back cube limit) var h = latch_less c var h
 
+-- a start only fits one frame or more
 pub start_frames : (c : Netlist) (fault : Option Fault) (k : ℕ) (s : Start) → IsStart c fault k s → 0 < k
 start_frames c fault k (one_frame z) h = let e = h in omega (arith, e)
 start_frames c fault k unknown h = h
 start_frames c fault k (state_pair good faulty) h = h.0
 start_frames c fault k (back cube limit) h = let e = h.0 in omega (arith, e)
 
+-- a window has one frame or more
 pub some_frames : (w : SearchWindow) → IsWindow w → 0 < w.frames
 some_frames w valid = start_frames w.circuit w.fault w.frames w.start valid.start
 
@@ -74,6 +76,7 @@ legal_var w var v (inl two) = elim (le_or_lt (first_input w w.frames) var) [
 ]
 legal_var w var v (inr three) = let h = three_small w.circuit w.start var three in inr (omega (arith, h))
 
+-- the frame of a variable is one of the window's
 pub legal_frame : (w : SearchWindow) → IsWindow w → (var : ℕ) → var_frame w var < w.frames
 legal_frame w valid var = elim (le_or_lt (first_input w w.frames) var) [
   | inl high ↦ let e = high_frame w var high in let s = some_frames w valid in omega (arith, e, s)
@@ -81,6 +84,7 @@ legal_frame w valid var = elim (le_or_lt (first_input w w.frames) var) [
       ≡ var / w.circuit.inputs = grind (arith, nat_tests, low) in omega (arith, e, h)
 ]
 
+-- a legal decision is of an input or a latch
 pub legal_net : (w : SearchWindow) (var : ℕ) (v : Tern) → IsLegalDecision w var v
     → var_net w var < first_gate_net w.circuit
 legal_net w var v legal = elim (le_or_lt (first_input w w.frames) var) [

@@ -17,9 +17,11 @@ module _ (s : WindowState) (w : SearchWindow) (is : ℕ → ℕ → Bool) (relev
     (marks : List ℕ) (cells : CellsState (List Pair))
     (h : IsHistory w is path marks cells)
     (state : record { window = w; decisions = path; marks = marks; mark = length cells.trail; relevant = relevant } ≡ s) where
+  -- the mark before a decision of the state is that of its marks and cells
   pub mark_is : (k : ℕ) → mark_before s k ≡ decision_mark marks cells k
   mark_is k = sym (ap (λ (t : WindowState). mark_before t k) state)
 
+  -- there is a mark for each decision of the state
   pub few_marks : (k : ℕ) → k ≤ length s.decisions → k ≤ length marks
   few_marks k few = let n = ap (λ (t : WindowState). length t.decisions) state in let c = h.count
       in omega (arith, n, c, few)
@@ -59,6 +61,7 @@ module _ (s : WindowState) (w : SearchWindow) (is : ℕ → ℕ → Bool) (relev
       → (n ≡ 0) ⊎ (get_or marks (n - 1) 0 < m) → (k : ℕ) → k ≤ length s.decisions → m ≡ mark_before s k → n ≡ k)
       (ap (λ (t : WindowState). t.marks) state) (count_is m n)
 
+  -- fields taken back to the mark before decision k are those of the state with its first k decisions
   pub undone_is : (kept : Option RelevantState) (v : SearchWindow) (after : List Assign3) (fewer : List ℕ)
       (trail : List (Saved (List Pair))) (m n k : ℕ)
       → kept ≡ relevant → v ≡ w → after ≡ take n path → fewer ≡ take n marks → trail ≡ take m cells.trail → n ≡ k → k ≤ length s.decisions

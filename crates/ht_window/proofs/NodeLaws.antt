@@ -22,12 +22,15 @@ use Rattle.ht_window.specs.States.{IsLegalDecision}
 -- a window with its decisions stands at a node of the first window
 module _ (first w : SearchWindow) (n : Node) (ds : List Assign3) (at : window_at first n ≡ w) (is : path_of n ≡ ds)
   where
+    -- the window's status is what the judge says of the node
     pub status_is : without_place (status_at w ds) ≡ (guide_of first).judge.status n
     status_is = λ k. without_place (status_at (sym at k) (sym is k))
 
+    -- the window's choice is the guide's at the node
     pub choice_is : pick_of w ds ≡ (guide_of first).choice n
     choice_is = λ k. pick_of (sym at k) (sym is k)
 
+    -- `Before` fits at the window's decisions just where the judge lets it at the node
     pub before_is : may_go_before w ds ≡ (guide_of first).judge.before n
     before_is = λ k. may_go_before (sym at k) (sym is k)
 
@@ -37,6 +40,7 @@ module _ (first w : SearchWindow) (n : Node) (ds : List Assign3) (at : window_at
     three_is : (var : ℕ) → may_three w var ≡ (guide_of first).judge.three n var
     three_is var = λ k. may_three (sym at k) var
 
+    -- where the status is open, the token of a legal choice fits at the node
     pub choice_fits : (chosen : Choice) → (guide_of first).judge.status n ≡ status3.Open → IsLegalChoice w ds chosen
         → Fits (guide_of first).judge n (deciding_token chosen)
     choice_fits (choice.Two var bit) opens h =
@@ -44,6 +48,7 @@ module _ (first w : SearchWindow) (n : Node) (ds : List Assign3) (at : window_at
     choice_fits (choice.Three var) opens h =
         (opens, subst IsTrue (three_is var) h.0, ap (λ (p : List Assign3). decides p var) is ∙ h.1)
 
+    -- what may be decided at the node is undecided in the window
     pub decision_undecided : (var : ℕ) (value : Tern) → MayDecide (guide_of first).judge n var value
         → decides ds var ≡ false
     decision_undecided var value may = ap (λ (p : List Assign3). decides p var) (sym is) ∙ may.undecided
@@ -56,6 +61,7 @@ module _ (first w : SearchWindow) (n : Node) (ds : List Assign3) (at : window_at
           | inr three ↦ inr (subst IsTrue (sym (three_is var)) three)
         ]
 
+    -- what may be decided at the node is a decision that the window allows
     pub decision_legal : (var : ℕ) (value : Tern) → MayDecide (guide_of first).judge n var value
         → IsLegalDecision w var value
     decision_legal var Zero may = legal_by var Zero (λ e. cc) may.legal

@@ -13,22 +13,27 @@ use Rattle.ht_window.specs.Cells.{cell_index, cell_count, env_at, blank}
 pub rows_row : (n f g x y : ℕ) → x < n → y < n → f * n + x ≡ g * n + y → f ≡ g
 rows_row n f g x y xs ys e = sym (div-mul-add f n x xs) ∙ (ap (λ (p : ℕ). p / n) e ∙ div-mul-add g n y ys)
 
+-- in rows of n, equal indices have equal offsets in their rows
 pub rows_in_row : (n f g x y : ℕ) → x < n → y < n → f * n + x ≡ g * n + y → x ≡ y
 rows_in_row n f g x y xs ys e = sym (mod-mul-add f n x xs) ∙ (ap (λ (p : ℕ). p % n) e ∙ mod-mul-add g n y ys)
 
+-- in k rows of n, an index in one of the k is below k * n
 pub rows_inside : (n k f x : ℕ) → f < k → x < n → f * n + x < k * n
 rows_inside n k f x fs xs =
     let m : suc f * n ≤ k * n = mul-le-mul_right n (omega (arith, fs)) in
     let e : suc f * n ≡ f * n + n = suc-mul f n in
     omega (arith, m, e, xs)
 
+-- rows that have an index aren't empty
 pub rows_some : (n k p : ℕ) → p < k * n → 0 < n
 rows_some zero k p h = let e = mul-zero k in absurd (omega (arith, e, h))
 rows_some (suc n) k p h = omega arith
 
+-- in k rows of n, the row of an index is one of the k
 pub rows_frame : (n k p : ℕ) → p < k * n → p / n < k
 rows_frame n k p h = (div-lt_iff_lt-mul {k = n} {x = p} {y = k} (rows_some n k p h)).1 h
 
+-- in rows of n, the offset of an index in its row is below n
 pub rows_local : (n k p : ℕ) → p < k * n → p % n < n
 rows_local n k p h = mod-lt p (rows_some n k p h)
 
@@ -40,6 +45,7 @@ module _ (w : SearchWindow) (values : List (List Pair)) (count : length values �
       blank
       (omega (arith, h, count))
 
+  -- after the write of a cell each other cell is as it was
   pub unwritten : (g y : ℕ) → y < net_count w.circuit → (g ≢ f) ⊎ (y ≢ x) → env_at w (set values (cell_index w f x) v) g
       y
       ≡ env_at w values g y

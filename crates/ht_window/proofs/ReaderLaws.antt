@@ -42,6 +42,7 @@ reader_same c f l h = grind (arith, nat_tests, h)
 reader_next : (c : Netlist) (f l : ℕ) → l < length c.dffs → reader_frame c f l ≡ suc f
 reader_next c f l h = grind (arith, nat_tests, h)
 
+-- the item of a gate reads each of its arguments in its own frame
 pub gate_reads : (c : Netlist) (k f x g y j : ℕ) → first_gate_net c ≤ y → y < net_count c → g < k
     → j < length (gate_at c (y - first_gate_net c)).args → g ≡ f → arg_at c (y - first_gate_net c) j ≡ x
     → IsReader c k f x (item_at c g (y - c.inputs))
@@ -65,6 +66,7 @@ gate_reads c k f x g y j at ys gs pin gf ax =
       at = ap (λ (h : ℕ). item_at c h l) (gf ∙ sym r);
     }
 
+-- the item of a flip-flop reads its data net in the frame before
 pub dff_reads : (c : Netlist) (k f x g j : ℕ) → j < length c.dffs → suc g < k → g ≡ f → (get_or c.dffs j no_net).0 ≡ x
     → IsReader c k f x (item_at c (suc g) j)
 dff_reads c k f x g j js gs gf dx =

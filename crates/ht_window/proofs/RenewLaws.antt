@@ -51,6 +51,7 @@ pub record AreRenewed (s : CoreState) (a : HeldState) (t : CoreState) (b : HeldS
   pub renewed : IsRenewed s a t b
   pub done : (k : ℕ) → k < n → HoldsOrPends t b (frame k) (net k)
 
+-- when the next net holds what it gets or is pending, and the others still do, one net more is renewed
 pub one_more_renewed : (s t u : CoreState) (a b d : HeldState) (frame net : ℕ → ℕ) (n : ℕ)
     → ((k : ℕ) → k < n → (frame k < a.standing.window.frames) × (net k < net_count a.standing.window.circuit))
     → AreRenewed s a t b frame net n → IsRenewed t b u d → HoldsOrPends u d (frame n) (net n)
@@ -100,6 +101,7 @@ module _ (s t : CoreState) (a b : HeldState) (valid : IsWindow a.standing.window
             (sym (ap (λ (o : Option RelevantState). is_relevant o g y) kept) ∙ m))
       ]))
 
+  -- after the write of a net, each net that held what it got, or was pending, still does, and so does that net
   pub renewed_write : IsRenewed s a t b × HoldsOrPends t b f x
   renewed_write = (
     record {

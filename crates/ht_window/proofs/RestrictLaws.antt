@@ -29,6 +29,7 @@ pub set_counts : (s : Start) (z counted : List Bool) (n : ℕ) → one_frame (ma
 set_counts s z counted n start is j js h =
     is j js ∙ (ap not (sym (marked_here z j)) ∙ (ap (λ (t : Start). counts_state t j) start ∙ h))
 
+-- the next state of a flip-flop outside the set counts
 pub outside_counts : (s : Start) (z : List Bool) → one_frame (marked 0 z) ≡ s → (j : ℕ) → false ≡ get_or z j false
     → counts_state s j ≡ true
 outside_counts s z start j free =
@@ -42,5 +43,6 @@ whole_relevant w = record {
   states = λ j js counts free path. absurd (false≢true (sym free));
 }
 
+-- each net of a window that leaves out none matters
 pub whole_matters : (w : WindowState) → w.relevant ≡ None → (f x : ℕ) → is_relevant w.relevant f x ≡ true
 whole_matters w whole f x = ap (λ (o : Option RelevantState). is_relevant o f x) whole

@@ -36,6 +36,7 @@ module _ {X : Type 0} (test : X → Bool) where
   pub find_push : (xs : List X) (x : X) → find test (xs ++ x ∷ []) ≡ option_or (find test xs) (then_some (test x) x)
   find_push xs x = find-append test xs (x ∷ []) ∙ ap (option_or (find test xs)) (found_here (test x) x)
 
+  -- a first that passes is found just where any passes
   pub any_found : (xs : List X) → is_some (find test xs) ≡ list_any test xs
   any_found [] = refl
   any_found (x ∷ xs) = by (test x) (any_found xs)
@@ -162,6 +163,7 @@ pub output_net : (w : SearchWindow) (c : Netlist) (net : NetId) (o : ℕ) → c 
 output_net w c net o circuit is =
     ap (λ (x : NetId). x.0) (is ∙ ap (λ (n : Netlist). get_or n.outputs o no_net) circuit)
 
+-- the net at a flip-flop's data pin is that of its next state
 pub state_net : (w : SearchWindow) (c : Netlist) (net : NetId) (j : ℕ) → c ≡ w.circuit
     → net ≡ get_or c.dffs j no_net → net.0 ≡ spot_net w.circuit (State j)
 state_net w c net j circuit is =
@@ -179,6 +181,7 @@ pub output_quiet : (w : SearchWindow) (is : ℕ → ℕ → Bool) → IsRelevant
 output_quiet w is h path look f o fs os free =
     sym (alike_shows look (set_at w path f (Output o)) (h.outputs f o fs os free path))
 
+-- a next state that counts shows nothing where its net doesn't matter
 pub state_quiet : (w : SearchWindow) (is : ℕ → ℕ → Bool) → IsRelevant w is → (path : List Assign3) (look : Look)
     (j : ℕ) → j < length w.circuit.dffs → counts_state w.start j ≡ true → is 0 (spot_net w.circuit (State j)) ≡ false
     → false ≡ shows look (set_at w path 0 (State j))

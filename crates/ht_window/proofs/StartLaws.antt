@@ -32,6 +32,7 @@ below_out j k (mark ∷ marks) h =
     (ap (λ (b : Bool). cond mark b false || is_in (marked (j + 1) marks) k) ne
     ∙ (or_other mark (is_in (marked (j + 1) marks) k) ∙ below_out (j + 1) k marks (omega (arith, h))))
 
+-- a number is among the set marks just where its mark is set
 pub marked_is : (j k : ℕ) (marks : List Bool) → is_in (marked j marks) (j + k) ≡ get_or marks k false
 marked_is j k [] = refl
 marked_is j zero (mark ∷ marks) =

@@ -29,18 +29,23 @@ module _ (w : SearchWindow) (ds : List Assign3) (seeks : seeks_difference w.star
   path : path_of here ≡ ds
   path = window_path [] ds
 
+  -- the window's status is what the judge says of its node
   pub status_here : without_place (status_at w ds) ≡ (guide_of w).judge.status here
   status_here = status_is w w here ds at path
 
+  -- the window's choice is the guide's at its node
   pub choice_here : pick_of w ds ≡ (guide_of w).choice here
   choice_here = choice_is w w here ds at path
 
+  -- where the status is open, the token of a legal choice fits at its node
   pub choice_fits_here : (chosen : Choice) → (guide_of w).judge.status here ≡ status3.Open → IsLegalChoice w ds chosen
       → Fits (guide_of w).judge here (deciding_token chosen)
   choice_fits_here = choice_fits w w here ds at path
 
+  -- what may be decided at its node is undecided in the window
   pub undecided_here : (var : ℕ) (value : Tern) → MayDecide (guide_of w).judge here var value → decides ds var ≡ false
   undecided_here = decision_undecided w w here ds at path
 
+  -- what may be decided at its node is a decision that the window allows
   pub legal_here : (var : ℕ) (value : Tern) → MayDecide (guide_of w).judge here var value → IsLegalDecision w var value
   legal_here = decision_legal w w here ds at path

@@ -20,6 +20,7 @@ value_now values path h var =
     (h.at (length path) var (omega arith) ∙ ap (λ (p : List Assign3). decided_value p var)
     (take_all (length path) path (omega arith)))
 
+-- the values of a path go on with one more decision, where its value is written and the old one kept
 pub value_push : (a b : CellsState (Option Tern)) (path : List Assign3) (d : Assign3) → d.var < length a.values
     → IsLater a b
     → b.values ≡ set a.values d.var (Some d.value) → length b.trail ≡ length a.trail + 1 → IsValueHistory a path
@@ -41,6 +42,7 @@ value_push a b path d room later written grown h = record {
   ];
 }
 
+-- with the values as before decision n, the history is that of the first n decisions
 pub value_undo : (a b : CellsState (Option Tern)) (path rest : List Assign3) (n : ℕ) → n ≤ length path → rest
     ≡ take n path
     → b.values ≡ restored a.values (drop n a.trail) → b.trail ≡ take n a.trail → IsValueHistory a path

@@ -48,12 +48,14 @@ back_step c r env (suc k) at next some high is =
     (ap (back_over c r env k) is ∙ sym
     (cond_no (ltb at.net (first_gate_net c)) at _ (not_below at.net (first_gate_net c) high)))
 
+-- over no gates the walk back stays where it is
 pub back_none : (c : Netlist) (r : Rules (List Pair)) (env : ℕ → List Pair) (k : ℕ) (at : Wanted) → k ≡ 0
     → back_over c r env k at ≡ at
 unfolding back_over
 back_none c r env zero at e = refl
 back_none c r env (suc k) at e = absurd (omega (arith, e))
 
+-- at an input or a latch the walk back within a frame stays
 pub back_low : (c : Netlist) (r : Rules (List Pair)) (env : ℕ → List Pair) (k : ℕ) (at : Wanted)
     → at.net < first_gate_net c → back_over c r env k at ≡ at
 unfolding back_over
@@ -71,6 +73,7 @@ argument_in r g env i (a ∷ args) n some h = either (is_undetermined (r.pin g i
     either true h k = h
     either false h k = k
 
+-- the first undetermined argument of a gate, or net 0 where it has none, is a net of the circuit
 pub undetermined_argument_known : (c : Netlist) (r : Rules (List Pair)) (env : ℕ → List Pair) (g : ℕ) → IsCircuit c
     → g < length c.gates → undetermined_argument r g env 0 (gate_at c g).args < net_count c
 undetermined_argument_known c r env g circuit inside = argument_in r g env 0 (gate_at c g).args (net_count c)
@@ -79,22 +82,26 @@ undetermined_argument_known c r env g circuit inside = argument_in r g env 0 (ga
 
 -- across frames
 module _ (w : SearchWindow) (path : List Assign3) (circuit : IsCircuit w.circuit) where
+  -- from an undetermined net the walk back within a frame ends at an input or a latch
   pub ends_low : (f : ℕ) (at : Wanted) → at.net < net_count w.circuit → 1 < length (cell_at w path f at.net)
       → (end_in_frame w path f at).net < first_gate_net w.circuit
   ends_low f at known h = let d = circuit_depth w.circuit circuit in
       (ends_undetermined w path circuit d.0 d.1 f at known h).low
 
+  -- from an undetermined net the walk back within a frame ends at an undetermined net
   pub ends_undetermined_at : (f : ℕ) (at : Wanted) → at.net < net_count w.circuit → 1 < length (cell_at w path f at.net)
       → 1 < length (cell_at w path f (end_in_frame w path f at).net)
   ends_undetermined_at f at known h = let d = circuit_depth w.circuit circuit
       in (ends_undetermined w path circuit d.0 d.1 f at known h).undetermined
 
+  -- at an input the choice is its variable, with the wanted bit first
   pub choice_input : (f : ℕ) (at : Wanted) → at.net < w.circuit.inputs → choice_at w path f at
       ≡ Two (first_input w f + at.net) at.bit
   unfolding choice_at
   choice_input zero at low = cond_yes (ltb at.net w.circuit.inputs) _ _ (below at.net w.circuit.inputs low)
   choice_input (suc f) at low = cond_yes (ltb at.net w.circuit.inputs) _ _ (below at.net w.circuit.inputs low)
 
+  -- at a latch of the first frame the choice is the one of the start
   pub choice_latch : (f : ℕ) (at : Wanted) → f ≡ 0 → w.circuit.inputs ≤ at.net → choice_at w path f at
       ≡ latch_choice w path w.start at
   unfolding choice_at
@@ -127,6 +134,7 @@ module _ (w : SearchWindow) (path : List Assign3) (circuit : IsCircuit w.circuit
       ap (λ (g : ℕ). is g (spot_net w.circuit (State (x - w.circuit.inputs)))) e
       ∙ closed.dffs f (x - w.circuit.inputs) fs (omega (arith, high, low)) (ap (is (suc f)) back ∙ m)
 
+  -- where a latch is undetermined, so is its data net one frame before
   pub data_undetermined : (f x : ℕ) → 0 < f → w.circuit.inputs ≤ x → x < first_gate_net w.circuit
       → 1 < length (cell_at w path f x)
       → 1 < length (cell_at w path (f - 1) (spot_net w.circuit (State (x - w.circuit.inputs))))

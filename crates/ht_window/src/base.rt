@@ -5,7 +5,7 @@ ghost use Rattle.ht_relevant.specs.Relevant.{IsRelevant};
 ghost use Rattle.ht_window.specs.Starts.{start_of};
 ghost use Rattle.ht_window.specs.Setups.{IsSetup, window_for};
 ghost use Rattle.ht_window.specs.BaseStates.{IsBase, IsBaseFor, IsBaseOf, IsNew};
-ghost use Rattle.ht_window.specs.Renewals.{HoldsElsewhere};
+ghost use Rattle.ht_window.specs.Renewals.{HoldsElsewhere, IsPlanFor};
 ghost use Rattle.ht_window.specs.Cells.{AreCells};
 ghost use Rattle.ht_window.specs.Matters.{is_relevant};
 
@@ -109,10 +109,30 @@ impl<'c> Window<'c> {
     }
 
     // The window of cells that hold but for what two faults reach first and for the latches of the first frame.
+    fn settled(
+        alloc: Global,
+        mut held: Held<'c>,
+        mut core: Core<'c>,
+        before: Option<Fault>,
+    ) -> Result<Window<'c>, AllocError>
+        requires plan { IsPlanFor core.plan held.standing.window }
+        requires path { held.standing.path ≡ [] }
+        requires good { held.standing.window.fault ≡ None → held.relevant ≡ None }
+        requires relevant { IsRelevant held.standing.window (is_relevant held.relevant) }
+        requires holds { HoldsElsewhere held before }
+        ensures new { IfOk result (IsNew held.entry.standing.window) }
+        ensures relevant { IfOk result (λ w. w.relevant ≡ held.entry.relevant) }
+    {
+        follow_fault(&mut held, &mut core, before)?;
+        held.forget();
+        Ok(Window::undecided(alloc, held, core))
+    }
+
+    // The same, with events of its own.
     fn followed(
         alloc: Global,
         frame_plan: Rc<FramePlan<'c>>,
-        mut held: Held<'c>,
+        held: Held<'c>,
         before: Option<Fault>,
     ) -> Result<Window<'c>, AllocError>
         requires plan { frame_plan.value.circuit ≡ held.standing.window.circuit }
@@ -123,35 +143,28 @@ impl<'c> Window<'c> {
         ensures new { IfOk result (IsNew held.entry.standing.window) }
         ensures relevant { IfOk result (λ w. w.relevant ≡ held.entry.relevant) }
     {
-        let mut core = Core::planned(alloc, frame_plan, held.decided().frames())?;
-        follow_fault(&mut held, &mut core, before)?;
-        held.forget();
-        Ok(Window::undecided(alloc, held, core))
+        let core = Core::planned(alloc, frame_plan, held.decided().frames())?;
+        Window::settled(alloc, held, core, before)
     }
 
-    // This base, once it has followed a setup's fault and start.
-    pub(crate) fn following(
-        self,
-        alloc: Global,
-        frame_plan: Rc<FramePlan<'c>>,
-        setup: &Setup,
-    ) -> Result<Window<'c>, AllocError>
-        requires plan { frame_plan.value.circuit ≡ self.window.circuit }
-        requires base { IsBaseFor self.window.circuit setup.now self }
+    // This base, once it has followed a setup's fault and start. Its cells and events stay where they are.
+    pub(crate) fn following(self, alloc: Global, setup: &Setup) -> Result<Window<'c>, AllocError>
+        requires { IsBaseFor self.window.circuit setup.now self }
         ensures { IfOk result (IsBaseOf self.entry.window.circuit setup.now) }
     {
         if self.is_of(setup) {
             return Ok(self);
         }
-        // for the proof: the window is well formed
-        let _ = self.circuit();
-        let whole = Setup {
-            fault: setup.fault,
-            frames: self.frames(),
-            start: setup.start,
-        };
-        let held = self.held_of(alloc, &whole)?;
-        Window::followed(alloc, frame_plan, held, self.fault())
+        let before = self.fault();
+        let whole = self.held.decided();
+        let (circuit, frames) = (whole.circuit(), whole.frames());
+        let decided = Decided::new(alloc, setup.start, circuit, setup.fault, frames)?;
+        let Window {
+            held,
+            core,
+            marks: _,
+        } = self;
+        Window::settled(alloc, held.under(decided), core, before)
     }
 
     // The window of a setup, made of the first frames of this base. In a large circuit those nets alone matter that the

@@ -162,10 +162,9 @@ impl<'c> Bases<'c> {
         ensures new { IfOk result (IsNew (window_for self.old.circuit setup.now)) }
     {
         let plan = self.plan()?;
-        let front_plan = self.plan()?;
         let old = self.base(alloc, setup)?;
-        let base = old.following(alloc, plan, setup)?;
-        let made = base.front(alloc, front_plan, setup.frames);
+        let base = old.following(alloc, setup)?;
+        let made = base.front(alloc, plan, setup.frames);
         self.keep(base)?;
         made
     }

@@ -77,6 +77,30 @@ impl<'c> Held<'c> {
         })
     }
 
+    /// The same cells for other decisions over as many nets and frames. All nets matter.
+    pub fn under(self, decided: Decided<'c>) -> Held<'c>
+        requires few { decided.window.frames ≤ MAX_FRAMES }
+        requires count { length self.cells.values ≡ cell_count decided.window }
+        ensures standing { result.standing ≡ decided.entry }
+        ensures values { result.cells.values ≡ self.entry.cells.values }
+        ensures whole { result.relevant ≡ None }
+    {
+        // for the proof: the circuit is well formed
+        let _ = decided.circuit().nets();
+        let Held {
+            decided: _,
+            cells,
+            relevant: _,
+            pins,
+        } = self;
+        Held {
+            decided,
+            cells,
+            relevant: None,
+            pins,
+        }
+    }
+
     /// The window and its decisions.
     pub fn decided(&self) -> &Decided<'c>
         ensures standing { result.now ≡ self.now.standing }

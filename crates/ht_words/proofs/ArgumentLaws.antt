@@ -15,6 +15,7 @@ use Rattle.ht_words.specs.Arguments.{rule_for, with_rules}
 abbrev with_all : App → List Rule → App
 with_all app rules = on_top (λ s. record s { rules = rules }) app
 
+-- a command with no more rules is the same command
 pub with_none : (app : App) → with_rules app [] ≡ app
 with_none app = ap (with_all app) (append-nil app.top.rules)
 
@@ -22,6 +23,7 @@ with_more : (app : App) (rule : Rule) (rest : List Rule)
     → with_rules (with_rule app rule) rest ≡ with_rules app (rule ∷ rest)
 with_more app rule rest = ap (with_all app) (append_assoc app.top.rules (rule ∷ []) rest)
 
+-- the rule of a local argument that was added comes before the rules that are added after it
 pub one_more : (old new : Command) (arg : Arg) (rule : Rule) (rest : List Rule) → AddsArg old arg new → arg.global ≡ false
     → rule_of arg ≡ rule → with_rules (app_of new) rest ≡ with_rules (app_of old) (rule ∷ rest)
 one_more old new arg rule rest adds local rule_is =
@@ -29,6 +31,7 @@ one_more old new arg rule rest adds local rule_is =
     ∙ with_more (app_of old) (rule_of arg) rest
     ∙ ap (λ (r : Rule). with_rules (app_of old) (r ∷ rest)) rule_is
 
+-- a plain command with a form's positionals and then its options is the command of that form
 pub defined : {E : Type 0} (name : Text) (form : Form) (plain middle : App) (r : Result Command E)
     → middle ≡ with_rules plain (map (rule_for false) form.positionals) → plain ≡ app_named name
     → IfOk r (λ c. app_of c ≡ with_rules middle (map (rule_for true) form.options))

@@ -49,6 +49,7 @@ module _ (E : Type 0) (text : Text) (plain : false ≡ (slice_index text 0 == 43
   parsed r parses = parse_plain (numerals_by_value AreDigits tells_digits) 64 text r parses
       (λ e. let bad : false ≡ true = plain ∙ (Decides-eqb (slice_index text 0) 43).1 e in cc)
 
+  -- a text that begins with no plus and is parsed as a number in the range is read as that number
   pub read_is_in : (least most number : ℕ) → ParsesUnsigned {E = E} 64 10 text (Ok number) → least ≤ number
       → number ≤ most → number_in least most text ≡ Some number
   read_is_in least most number parses above below =
@@ -60,6 +61,7 @@ module _ (E : Type 0) (text : Text) (plain : false ≡ (slice_index text 0 == 43
       ∙ ap (λ b. given (b && nat_le number most) number) (le-leb least number above)
       ∙ ap (λ b. given b number) (le-leb number most below)
 
+  -- a text that begins with no plus and can't be parsed is no number in a range below 2^64
   pub unread_is_none : (least most : ℕ) (error : E) → most < 2 ^ 64 → ParsesUnsigned {E = E} 64 10 text (Err error)
       → number_in least most text ≡ None
   unread_is_none least most error small parses = go (is_number text) refl (in_range least most (value text)) refl

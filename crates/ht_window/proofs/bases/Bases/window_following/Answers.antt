@@ -4,8 +4,8 @@ use Rattle.ht_tree.specs.Windows.{SearchWindow, IsStart}
 use Rattle.ht_window.specs.BaseStates.{IsBaseFor, IsNew}
 use Rattle.ht_window.proofs.bases.Bases.window_following.Goals as goal
 
-pub following-requires-clause-base : goal.following-requires-clause-base
-following-requires-clause-base c =
+pub following-requires : goal.following-requires
+following-requires c =
     let old = c.in_ok-old.ensures.base in
     subst (λ (k : Netlist). IsBaseFor k c.args.setup.now c.in_ok-old.old) (sym old.base.circuit) old
 

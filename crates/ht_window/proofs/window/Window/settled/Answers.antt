@@ -2,7 +2,7 @@ use Rattle.std.proofs.Common.{◌∙◌, ap, subst}
 use Rattle.ht_tree.specs.Windows.{SearchWindow}
 use Rattle.ht_window.specs.Standing.{Standing}
 use Rattle.ht_window.specs.BaseStates.{IsNew}
-use Rattle.ht_window.proofs.window.Window.followed.Goals as goal
+use Rattle.ht_window.proofs.window.Window.settled.Goals as goal
 
 pub returns-clause-new : goal.returns-clause-new
 returns-clause-new c =
