@@ -83,7 +83,7 @@ none_kept c fault start list (Some p) undetected first = absurd (undetected p.ve
 -- ---- the next fault
 
 module _ (e : EngineView) (steps : List Step) (s : EngineStandsFor e steps) where
-  awaits_of : (i : ℕ) → e.place ≤ i → IsUndetected e i
+  awaits_of : (i : ℕ) → e.first_awaiting ≤ i → IsUndetected e i
       → AwaitsVerdict e.circuit e.representatives e.settings steps i
   awaits_of i from u = record {
     own = u.own;
@@ -106,16 +106,16 @@ module _ (e : EngineView) (steps : List Step) (s : EngineStandsFor e steps) wher
   pub is_next : (i : ℕ) → IsNextUndetected e i → IsNextFault e.circuit e.representatives e.settings steps i
   is_next i n = record {
     awaits = awaits_of i n.from n.undetected;
-    least = λ k below a. elim (le_or_lt e.place k) [
+    least = λ k below a. elim (le_or_lt e.first_awaiting k) [
       | inl from ↦ n.least k from below (undetected_of k a)
       | inr under ↦ s.done k under a
     ];
   }
 
   -- if no undetected fault is left from where the engine is on, no fault awaits its verdict
-  pub none_awaits : ((k : ℕ) → e.place ≤ k → ¬ IsUndetected e k)
+  pub none_awaits : ((k : ℕ) → e.first_awaiting ≤ k → ¬ IsUndetected e k)
       → (k : ℕ) → ¬ AwaitsVerdict e.circuit e.representatives e.settings steps k
-  none_awaits last k a = elim (le_or_lt e.place k) [
+  none_awaits last k a = elim (le_or_lt e.first_awaiting k) [
     | inl from ↦ last k from (undetected_of k a)
     | inr under ↦ s.done k under a
   ]
@@ -167,14 +167,14 @@ module _ (e new : EngineView) (steps : List Step) (s : EngineStandsFor e steps) 
   longer = steps ++ Vectors list ∷ []
 
   stands_longer : (place : ℕ) (rest : List (List Bool))
-      → new ≡ record e { grader = new.grader; place = place; rest = rest }
+      → new ≡ record e { grader = new.grader; first_awaiting = place; rest = rest }
       → Follows e.circuit e.representatives e.settings steps (Vectors list)
-      → rest ≡ drop (length longer) (all_first e) → e.place ≤ place
+      → rest ≡ drop (length longer) (all_first e) → e.first_awaiting ≤ place
       → ((k : ℕ) → k < place → ¬ AwaitsVerdict e.circuit e.representatives e.settings longer k)
       → AreVectors e.circuit list.list → EngineStandsFor new longer
   stands_longer place rest after follows left from done wide =
       let same = sym (entries_with_list steps list) in
-      let at : EngineView = record e { grader = new.grader; place = place; rest = rest } in
+      let at : EngineView = record e { grader = new.grader; first_awaiting = place; rest = rest } in
       subst (λ (v : EngineView). EngineStandsFor v longer) (sym after)
       (record {
         latches = s.latches;
@@ -233,7 +233,7 @@ module _ (e new : EngineView) (steps : List Step) (s : EngineStandsFor e steps) 
       let more : length steps + 1 ≡ length (steps ++ Vectors list ∷ []) = omega (arith, long) in
       record {
         follows = first_follows;
-        stands = stands_longer e new steps s list g.graded e.place g.rest g.after first_follows
+        stands = stands_longer e new steps s list g.graded e.first_awaiting g.rest g.after first_follows
             (sym rest_is ∙ ap (λ (k : ℕ). drop k (all_first e)) more) (omega arith)
             (λ k l a. s.done k l
             (awaited_before e.circuit e.representatives e.settings steps (Vectors list) k a)) list_wide;
@@ -406,7 +406,7 @@ module _ (e new : EngineView) (steps : List Step) (s : EngineStandsFor e steps) 
         e.named_invariant s.found made (g.work.after (vectors_of_steps steps) s.graded).given,
   )
 
-  entry_stands : EngineStandsFor (record e { kinds = kinds_now; place = fault + 1 }) more
+  entry_stands : EngineStandsFor (record e { kinds = kinds_now; first_awaiting = fault + 1 }) more
   entry_stands =
       let same = sym (entries_more steps (Entry fault made)) in
       record {
@@ -443,7 +443,7 @@ pub end_made : (e new : EngineView) (steps : List Step) → EngineStandsFor e st
     → Makes e new steps Finished
 end_made e new steps s g =
     let last = none_awaits e steps s g.none in
-    let at : EngineStandsFor (record e { place = length e.representatives }) steps =
+    let at : EngineStandsFor (record e { first_awaiting = length e.representatives }) steps =
     record {
       latches = s.latches;
       are = s.are;
@@ -481,7 +481,7 @@ means old new steps s (Entry fault made) g = entry_holds old new steps s fault m
 means old new steps s Finished g = tt
 
 same_by : (old new : EngineView) (grader : ClassGraderView) (kinds : List (Option EntryKind)) (place : ℕ)
-    (rest : List (List Bool)) → new ≡ record old { grader = grader; kinds = kinds; place = place; rest = rest }
+    (rest : List (List Bool)) → new ≡ record old { grader = grader; kinds = kinds; first_awaiting = place; rest = rest }
     → HasSameWork old new
 same_by old new grader kinds place rest is = record {
   circuit = ap (λ (v : EngineView). v.circuit) is;
@@ -491,14 +491,14 @@ same_by old new grader kinds place rest is = record {
 
 -- a step leaves the circuit, the representatives and the settings of an engine as they are
 pub same_work : (old new : EngineView) (step : Step) → Advances old new step → HasSameWork old new
-same_work old new (Vectors list) (inl g) = same_by old new new.grader old.kinds old.place g.rest g.after
+same_work old new (Vectors list) (inl g) = same_by old new new.grader old.kinds old.first_awaiting g.rest g.after
 same_work old new (Vectors list) (inr g) = same_by old new new.grader old.kinds (g.fault + 1) old.rest g.after
 same_work old new (Entry fault made) g =
     same_by old new old.grader (set old.kinds fault (Some (kind_of made))) (fault + 1) old.rest g.after
 same_work old new Finished g = same_by old new old.grader old.kinds (length old.representatives) old.rest g.after
 
 -- one of the first vectors less, or a place further
-fewer_left : (old new : EngineView) (vector : List Bool) → old.rest ≡ vector ∷ new.rest → new.place ≡ old.place
+fewer_left : (old new : EngineView) (vector : List Bool) → old.rest ≡ vector ∷ new.rest → new.first_awaiting ≡ old.first_awaiting
     → new.representatives ≡ old.representatives → remaining new < remaining old
 fewer_left old new vector left place same =
     let one : length old.rest ≡ length (vector ∷ new.rest) = ap (λ (l : List (List Bool)). length l) left in
@@ -506,7 +506,7 @@ fewer_left old new vector left place same =
     omega (arith, one, place, long)
 
 fewer_faults : (old new : EngineView) (fault : ℕ) → IsNextUndetected old fault → new.rest ≡ old.rest
-    → new.place ≡ fault + 1 → new.representatives ≡ old.representatives → remaining new < remaining old
+    → new.first_awaiting ≡ fault + 1 → new.representatives ≡ old.representatives → remaining new < remaining old
 fewer_faults old new fault next left place same =
     let long : length new.representatives ≡ length old.representatives = ap length same in
     let rest = ap (λ (l : List (List Bool)). length l) left in
@@ -520,13 +520,13 @@ pub nears : (old new : EngineView) (step : Step) → Advances old new step → s
 nears old new (Vectors list) (inl g) other =
     fewer_left old new g.vector
     (g.left ∙ ap (λ (l : List (List Bool)). g.vector ∷ l) (sym (ap (λ (v : EngineView). v.rest) g.after)))
-    (ap (λ (v : EngineView). v.place) g.after) (ap (λ (v : EngineView). v.representatives) g.after)
+    (ap (λ (v : EngineView). v.first_awaiting) g.after) (ap (λ (v : EngineView). v.representatives) g.after)
 nears old new (Vectors list) (inr g) other =
     fewer_faults old new g.fault g.next (ap (λ (v : EngineView). v.rest) g.after)
-    (ap (λ (v : EngineView). v.place) g.after) (ap (λ (v : EngineView). v.representatives) g.after)
+    (ap (λ (v : EngineView). v.first_awaiting) g.after) (ap (λ (v : EngineView). v.representatives) g.after)
 nears old new (Entry fault made) g other =
     fewer_faults old new fault g.next (ap (λ (v : EngineView). v.rest) g.after)
-    (ap (λ (v : EngineView). v.place) g.after) (ap (λ (v : EngineView). v.representatives) g.after)
+    (ap (λ (v : EngineView). v.first_awaiting) g.after) (ap (λ (v : EngineView). v.representatives) g.after)
 nears old new Finished g other = absurd (other refl)
 
 -- ---- what is said

@@ -20,7 +20,7 @@ engine_of a = record {
   named_invariant = a.named_invariant;
   grader = a.tools.grader;
   kinds = a.kinds.items;
-  place = a.place;
+  first_awaiting = a.first_awaiting;
   rest = rest_of a.tools.first;
   live = a.live;
 }
@@ -34,7 +34,7 @@ pub record IsEngine (e : EngineView) (listed : List Fault) (marked : List Bool) 
   pub representatives : e.grader.representatives ≡ e.representatives
   pub budget : IsBudget e.settings.budget
   pub kinds : length e.kinds ≡ length e.representatives
-  pub place : e.place ≤ length e.representatives
+  pub first_awaiting : e.first_awaiting ≤ length e.representatives
   pub found : IsNamedInvariant e.circuit e.settings.start e.settings.budget e.named_invariant
   pub holds : HoldsIfAny e.circuit e.named_invariant
   pub latches : IsStart e.circuit e.settings.start

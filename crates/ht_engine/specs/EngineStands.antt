@@ -37,7 +37,7 @@ pub record EngineView : Type 0 where
   -- first fault that may still await its verdict
   pub grader : ClassGraderView
   pub kinds : List (Option EntryKind)
-  pub place : ℕ
+  pub first_awaiting : ℕ
   -- the first vectors that are left
   pub rest : List (List Bool)
   -- false from the first time that memory ran out
@@ -92,8 +92,8 @@ pub record EngineStandsFor (e : EngineView) (steps : List Step) : Type 0 where
   pub rest : e.rest ≡ drop (length steps) (all_first e)
   pub graded : HasGraded e (vectors_of_steps steps)
   pub kinds : (i : ℕ) → i < length e.representatives → IsKindIn (entries_of steps) i (kind_at e i)
-  pub done : (i : ℕ) → i < e.place → ¬ AwaitsVerdict e.circuit e.representatives e.settings steps i
-  pub entered : (i : ℕ) → HasEntry (entries_of steps) i → i < e.place
+  pub done : (i : ℕ) → i < e.first_awaiting → ¬ AwaitsVerdict e.circuit e.representatives e.settings steps i
+  pub entered : (i : ℕ) → HasEntry (entries_of steps) i → i < e.first_awaiting
   -- what the steps mean
   pub wide : AreVectors e.circuit (vectors_of_steps steps)
   pub pass : AllHold e.circuit e.settings (entries_of steps)
@@ -109,10 +109,10 @@ pub record HasSameWork (old new : EngineView) : Type 0 where
   pub representatives : new.representatives ≡ old.representatives
   pub settings : new.settings ≡ old.settings
 
--- How many steps may still come: one for each of the first vectors that are left, and one for each fault from the place
+-- How many steps may still come: one for each of the first vectors that are left, and one for each fault from the first awaiting
 -- on.
 abbrev pub remaining : EngineView → ℕ
-remaining e = length e.rest + (length e.representatives - e.place)
+remaining e = length e.rest + (length e.representatives - e.first_awaiting)
 
 -- The engine made a step that may come after these, and stands for them with it.
 pub record MakesStep (old new : EngineView) (steps : List Step) (step : Step) : Type 0 where

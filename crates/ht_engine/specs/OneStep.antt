@@ -26,16 +26,16 @@ pub record IsUndetected (e : EngineView) (i : ℕ) : Type 0 where
   pub chosen : IsChosen e.representatives e.settings i
   pub undetected : place_at e.grader.places i ≡ None
 
--- The least undetected fault that isn't below the place.
+-- The least undetected fault that isn't below the first that may await its verdict.
 pub record IsNextUndetected (e : EngineView) (i : ℕ) : Type 0 where
   pub inside : i < length e.representatives
   pub undetected : IsUndetected e i
-  pub from : e.place ≤ i
-  pub least : (k : ℕ) → e.place ≤ k → k < i → ¬ IsUndetected e k
+  pub from : e.first_awaiting ≤ i
+  pub least : (k : ℕ) → e.first_awaiting ≤ k → k < i → ¬ IsUndetected e k
 
 -- The next undetected fault, or that there is none.
 abbrev pub IsNextOf : EngineView → Option ℕ → Type 0
-IsNextOf e None = (k : ℕ) → e.place ≤ k → ¬ IsUndetected e k
+IsNextOf e None = (k : ℕ) → e.first_awaiting ≤ k → ¬ IsUndetected e k
 IsNextOf e (Some i) = IsNextUndetected e i
 
 -- ---- what is said by the kind of an entry
@@ -91,7 +91,7 @@ pub record GivesList (old new : EngineView) (list : Rows) : Type 0 where
   pub fault : ℕ
   pub next : IsNextUndetected old fault
   pub work : IsWorkOn old fault (made.List list)
-  pub after : new ≡ record old { grader = new.grader; place = fault + 1 }
+  pub after : new ≡ record old { grader = new.grader; first_awaiting = fault + 1 }
   pub graded : (before : List (List Bool)) → HasGraded old before → HasGraded new (before ++ list.list)
 
 -- An entry was given for the next fault: its kind is kept.
@@ -101,14 +101,14 @@ pub record GivesEntry (old new : EngineView) (fault : ℕ) (entry : recorded.Ent
   pub work : IsWorkOn old fault (made.Entry entry)
   pub room : fault < length old.kinds
   pub after : new
-      ≡ record old { kinds = slice_set old.kinds fault (Some (kind_of entry)); place = fault + 1 }
+      ≡ record old { kinds = slice_set old.kinds fault (Some (kind_of entry)); first_awaiting = fault + 1 }
 
 -- There is no next fault.
 pub record Ends (old new : EngineView) : Type 0 where
   pub none_left : old.rest ≡ []
   pub none : IsNextOf old None
-  pub within : old.place ≤ length old.representatives
-  pub after : new ≡ record old { place = length old.representatives }
+  pub within : old.first_awaiting ≤ length old.representatives
+  pub after : new ≡ record old { first_awaiting = length old.representatives }
 
 -- One step changes what an engine keeps: it gives one of the first vectors, a list or an entry, or ends.
 abbrev pub Advances : EngineView → EngineView → Step → Type 0

@@ -133,7 +133,7 @@ pub struct Engine<'c> {
     kinds: Vec<Option<EntryKind>>,
     tools: Tools<'c>,
     // the first fault that may still await its verdict
-    place: u32,
+    first_awaiting: u32,
     live: bool,
 }
 
@@ -183,7 +183,7 @@ impl<'c> Engine<'c> {
             chosen: mark_chosen(alloc, classes, settings)?,
             kinds: no_kinds(alloc, classes.len())?,
             tools: Tools::new(alloc, circuit, faults, classes, settings)?,
-            place: 0,
+            first_awaiting: 0,
             live: true,
         })
     }
@@ -210,12 +210,12 @@ impl<'c> Engine<'c> {
         self.tools.grader.verdict(i).is_none()
     }
 
-    // The least fault from the place on that is to be worked on and isn't detected.
+    // The least fault from the first one that may await its verdict on that is to be worked on and isn't detected.
     fn next_fault(&self) -> Option<u32>
         ensures next { IsNextOf self.now result }
         ensures fits { ForSome result (λ i. i + 1 < 2 ^ 32) }
     {
-        for i in self.place..self.classes.len() {
+        for i in self.first_awaiting..self.classes.len() {
             if self.is_undetected(i) {
                 return Some(i);
             }
@@ -305,7 +305,7 @@ impl<'c> Engine<'c> {
         ensures same { OnErr result (HasSameWork self.old self.new) }
     {
         self.tools.grader.apply(&list)?;
-        self.place = fault + 1;
+        self.first_awaiting = fault + 1;
         Ok(Step::Vectors(list))
     }
 
@@ -318,7 +318,7 @@ impl<'c> Engine<'c> {
         ensures { Advances self.old self.new result }
     {
         self.kinds[fault as usize] = Some(entry.kind());
-        self.place = fault + 1;
+        self.first_awaiting = fault + 1;
         Step::Entry { fault, entry }
     }
 
@@ -329,7 +329,7 @@ impl<'c> Engine<'c> {
         ensures same { OnErr result (HasSameWork self.old self.new) }
     {
         let Some(fault) = self.next_fault() else {
-            self.place = self.classes.len();
+            self.first_awaiting = self.classes.len();
             return Ok(Step::Finished);
         };
         match self.work_by_search(fault)? {

@@ -87,7 +87,7 @@ fn parse_step(alloc: Global, line: &[u8]) -> Found<ClauseStep>
 
 impl ByCubesPart {
     // What the line `entry 7 undetectable by cubes` begins.
-    pub fn begun(alloc: Global) -> ByCubesPart
+    pub fn new(alloc: Global) -> ByCubesPart
         ensures { result ≡ by_cubes.no_cubes }
     {
         ByCubesPart {

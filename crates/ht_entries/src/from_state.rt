@@ -16,7 +16,7 @@ use crate::found::Found;
 use crate::parse_words::{after_word, number_then};
 use crate::proof_line::ProofLine;
 use crate::push_item::with_item;
-use crate::refutation::{is_above, with_token};
+use crate::read_refutation::{is_above, with_token};
 use crate::write_line::push_bits;
 use crate::write_lists::push_tokens;
 use ht_items::Items;
@@ -170,7 +170,7 @@ fn parse_state(alloc: Global, text: &[u8]) -> Found<Items<bool>>
 
 impl FromStatePart {
     // What the line `entry 7 untestable from 0110` begins.
-    pub fn begun(alloc: Global, state: Items<bool>) -> FromStatePart
+    pub fn new(alloc: Global, state: Items<bool>) -> FromStatePart
         ensures { result ≡ from_state.begun_by state }
     {
         FromStatePart {

@@ -11,7 +11,6 @@
 //! that is none goes wrong.
 #![tactic(auto)]
 
-mod aim;
 mod by_cubes;
 mod by_sets;
 mod entry_part;
@@ -28,14 +27,15 @@ mod parse_vector;
 mod parse_words;
 mod proof_line;
 mod push_item;
+mod read_aim;
+mod read_refutation;
+mod read_sweep;
+mod read_told;
 mod reader;
 mod reader_state;
-mod refutation;
-mod sweep;
 mod take_line;
 mod text_error;
 mod theorems;
-mod told;
 mod write_line;
 mod write_lists;
 

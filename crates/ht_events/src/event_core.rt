@@ -48,14 +48,14 @@ impl<'c> Core<'c> {
         ensures none { IfOk result (λ core. (x : ℕ) → ¬ IsPending core x) }
     {
         let frame_plan = Rc::new(alloc, FramePlan::new(alloc, circuit)?)?;
-        Core::planned(alloc, frame_plan, frames)
+        Core::with_plan(alloc, frame_plan, frames)
     }
 
     /// The same with the plan of a frame of the circuit, which other cores may share.
     ///
     /// # Errors
     /// Out of memory.
-    pub fn planned(
+    pub fn with_plan(
         alloc: Global,
         frame_plan: Rc<FramePlan<'c>>,
         frames: u32,

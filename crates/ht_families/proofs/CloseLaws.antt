@@ -24,7 +24,7 @@ pub record IsFrameOf (c : Netlist) (fault : Fault) (family : Family) (frame : Fr
   pub circuit : frame.circuit ≡ c
   pub fault_is : frame.fault ≡ fault
   pub shown : frame.shown ≡ shown_sets c fault family
-  pub taken : frame.taken ≡ taken_sets c fault family
+  pub next_sets : frame.next_sets ≡ taken_sets c fault family
 
 -- a frame that runs from a family is one of that family
 pub frame_is : (c : Netlist) (fault : Fault) (family : Family) (before after : FrameView)
@@ -33,7 +33,7 @@ frame_is c fault family before after e d is = record {
   circuit = ap (λ (f : FrameView). f.circuit) is ∙ e;
   fault_is = ap (λ (f : FrameView). f.fault) is ∙ d;
   shown = ap (λ (f : FrameView). f.shown) is ∙ (λ i. shown_sets (e i) (d i) family);
-  taken = ap (λ (f : FrameView). f.taken) is ∙ (λ i. taken_sets (e i) (d i) family);
+  next_sets = ap (λ (f : FrameView). f.next_sets) is ∙ (λ i. taken_sets (e i) (d i) family);
 }
 
 -- a frame that runs from a family under another name is one of that family too
@@ -58,14 +58,14 @@ shows_out c fault family frame is may =
     subst (λ (n : Netlist). MayShow n frame.shown) (sym is.circuit) m
 
 -- a family that holds the start closes where it includes what its frame takes and no output there may differ
-pub closes_when : (c : Netlist) (fault : Fault) (start : List Tern) (family taken : Family)
+pub closes_when : (c : Netlist) (fault : Fault) (start : List Tern) (family next_sets : Family)
     (frame : FrameView) → IsFrameOf c fault family frame → length family ≡ length c.dffs → HoldsState family start
-    → taken ≡ frame.taken → IncludesEach family taken → ¬ MayShow frame.circuit frame.shown
+    → next_sets ≡ frame.next_sets → IncludesEach family next_sets → ¬ MayShow frame.circuit frame.shown
     → Closes c fault start family
-closes_when c fault start family taken frame is long holds took stays silent = record {
+closes_when c fault start family next_sets frame is long holds took stays silent = record {
   sets = long;
   starts = holds;
-  stays = subst (λ (t : List (List Pair)). IncludesEach family t) (took ∙ is.taken) stays;
+  stays = subst (λ (t : List (List Pair)). IncludesEach family t) (took ∙ is.next_sets) stays;
   silent = λ o d l may.
       let n = shown_long c fault family in
       silent (shows_out c fault family frame is (
@@ -76,11 +76,11 @@ closes_when c fault start family taken frame is long holds took stays silent = r
 }
 
 -- a family that closes includes what its frame takes
-pub closed_stays : (c : Netlist) (fault : Fault) (start : List Tern) (family taken : Family)
-    (frame : FrameView) → IsFrameOf c fault family frame → taken ≡ frame.taken → Closes c fault start family
-    → IncludesEach family taken
-closed_stays c fault start family taken frame is took closes =
-    subst (λ (t : List (List Pair)). IncludesEach family t) (sym (took ∙ is.taken)) closes.stays
+pub closed_stays : (c : Netlist) (fault : Fault) (start : List Tern) (family next_sets : Family)
+    (frame : FrameView) → IsFrameOf c fault family frame → next_sets ≡ frame.next_sets → Closes c fault start family
+    → IncludesEach family next_sets
+closed_stays c fault start family next_sets frame is took closes =
+    subst (λ (t : List (List Pair)). IncludesEach family t) (sym (took ∙ is.next_sets)) closes.stays
 
 -- no output may differ in the frame of a family that closes
 pub closed_shows_none : (c : Netlist) (fault : Fault) (start : List Tern) (family : Family)
@@ -92,11 +92,11 @@ closed_shows_none c fault start family frame is closes may =
     closes.silent m.0 [] (let l = m.1 in omega (arith, l, n)) m.2
 
 -- a grown family that includes what its frame takes, where no output may differ, is the least that closes
-pub least_when : (c : Netlist) (fault : Fault) (start : List Tern) (family taken : Family)
-    (frame : FrameView) → IsFrameOf c fault family frame → IsGrown c fault start family → taken ≡ frame.taken
-    → IncludesEach family taken → ¬ MayShow frame.circuit frame.shown → IsLeastClosing c fault start family
-least_when c fault start family taken frame is grown took stays silent = record {
-  closes = closes_when c fault start family taken frame is grown.sets grown.starts took stays silent;
+pub least_when : (c : Netlist) (fault : Fault) (start : List Tern) (family next_sets : Family)
+    (frame : FrameView) → IsFrameOf c fault family frame → IsGrown c fault start family → next_sets ≡ frame.next_sets
+    → IncludesEach family next_sets → ¬ MayShow frame.circuit frame.shown → IsLeastClosing c fault start family
+least_when c fault start family next_sets frame is grown took stays silent = record {
+  closes = closes_when c fault start family next_sets frame is grown.sets grown.starts took stays silent;
   within = grown.within;
 }
 

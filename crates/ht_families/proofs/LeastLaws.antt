@@ -106,17 +106,17 @@ grows_on c fault start family next grown long joined wide = record {
   starts = λ j l.
       let n = grown.sets in
       let old = get_or family j [] in
-      let taken = get_or (taken_sets c fault family) j [] in
+      let next_sets = get_or (taken_sets c fault family) j [] in
       subst (λ (s : List Pair). IsMember (pair (get_or start j Unk) (get_or start j Unk)) s)
       (sym (joined j (omega (arith, l, n, wide))))
-      ((set_of_holds (old ++ taken) _).1 (member_left _ old taken (grown.starts j l)));
+      ((set_of_holds (old ++ next_sets) _).1 (member_left _ old next_sets (grown.starts j l)));
   within = λ other closes j l p i.
       let n = grown.sets in
       let m = closes.sets in
       let old = get_or family j [] in
-      let taken = get_or (taken_sets c fault family) j [] in
+      let next_sets = get_or (taken_sets c fault family) j [] in
       let here = subst (λ (s : List Pair). IsMember p s) (joined j (omega (arith, l, long))) i in
-      elim (member_either p old taken ((set_of_holds (old ++ taken) p).0 here)) [
+      elim (member_either p old next_sets ((set_of_holds (old ++ next_sets) p).0 here)) [
         | inl k ↦ grown.within other closes j (omega (arith, l, long)) p k
         | inr k ↦
             let t = taken_long c fault other in

@@ -15,7 +15,7 @@ pub record FrameView : Type 0 where
   pub circuit : Netlist
   pub fault : Fault
   pub shown : List (List Pair)
-  pub taken : Family
+  pub next_sets : Family
 
 -- the fields of a frame as this view
 abbrev pub frame_view : Inside → FrameView
@@ -23,14 +23,14 @@ frame_view a = record {
   circuit = a.circuit.now;
   fault = a.fault;
   shown = values_at (env_of (pair Unk Unk ∷ []) a.values.items) a.circuit.now.outputs;
-  taken = a.taken.items;
+  next_sets = a.next_sets.items;
 }
 
 -- after a frame from a family
 abbrev pub after_family : FrameView → Family → FrameView
 after_family f family = record f {
   shown = shown_sets f.circuit f.fault family;
-  taken = taken_sets f.circuit f.fault family;
+  next_sets = taken_sets f.circuit f.fault family;
 }
 
 -- each field is as long as what it has values for
@@ -39,7 +39,7 @@ pub record HasRoom (a : Inside) : Type 0 where
   pub vector : a.vector.items ≡ any_vector a.circuit.now
   pub nets : length a.values.items ≡ net_count a.circuit.now
   pub widest : length a.pins.items ≡ max_arguments
-  pub dffs : length a.taken.items ≡ length a.circuit.now.dffs
+  pub dffs : length a.next_sets.items ≡ length a.circuit.now.dffs
 
 -- how many pairs a family has in all
 abbrev pub size_of : Family → ℕ

@@ -32,7 +32,7 @@ pub fn closes(
     if !holds_state(family, start) {
         return Ok(false);
     }
-    if !includes_each(family, frame.taken()) {
+    if !includes_each(family, frame.next_sets()) {
         return Ok(false);
     }
     Ok(!frame.may_differ())

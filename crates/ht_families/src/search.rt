@@ -34,10 +34,10 @@ pub fn closing(
         if frame.may_differ() {
             return Ok(None);
         }
-        if includes_each(&family, frame.taken()) {
+        if includes_each(&family, frame.next_sets()) {
             return Ok(Some(family));
         }
         // some set gains a pair in each round, and none has more than nine
-        join_each(&mut family, frame.taken());
+        join_each(&mut family, frame.next_sets());
     }
 }

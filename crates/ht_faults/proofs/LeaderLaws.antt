@@ -39,9 +39,9 @@ module _ (c : Netlist) (circuit : IsCircuit c) (stems : List ℕ) (stay : StayIn
       refl
       ∙ sym (ap (λ (s : Site). leader_by c stems j s g.value) h.at_output))
 
-  turn : (f g : Fault) → Meets f g → Meets g f
-  turn f g (inl e) = inl (sym e)
-  turn f g (inr h) = inr (λ i j. sym (h j i))
+  meets_back : (f g : Fault) → Meets f g → Meets g f
+  meets_back f g (inl e) = inl (sym e)
+  meets_back f g (inr h) = inr (λ i j. sym (h j i))
 
   join : (f g k : Fault) → Meets f g → Meets g k → Meets f k
   join f g k (inl e) h = subst (λ (x : Fault). Meets x k) (sym e) h
@@ -51,7 +51,7 @@ module _ (c : Netlist) (circuit : IsCircuit c) (stems : List ℕ) (stay : StayIn
   class_meets : (f g : Fault) → SameClass c f g → Meets f g
   class_meets _ _ (itself f) = inl refl
   class_meets _ _ (paired f g h) = inr (pair_meets f g h)
-  class_meets _ _ (turned f g h) = turn f g (class_meets f g h)
+  class_meets _ _ (turned f g h) = meets_back f g (class_meets f g h)
   class_meets _ _ (joined f g k h l) = join f g k (class_meets f g h) (class_meets g k l)
 
   -- a fault's leader is a fault of its class

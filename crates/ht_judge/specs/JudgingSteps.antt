@@ -103,13 +103,13 @@ pub record IsFirstNeeded (representatives : List ℕ) (saids : List Said) (from 
 -- The least entry that is needed from the last one that was begun on is denied.
 abbrev pub DeniesDue : ProofJudgeView → ℕ → JudgeError → Type 0
 DeniesDue v due (Denied (Fault number)) =
-    (0 < number) × IsFirstNeeded v.representatives v.saids v.begun due (number - 1)
+    (0 < number) × IsFirstNeeded v.representatives v.saids v.last_number due (number - 1)
 DeniesDue v due (Denied other) = ⊥
 DeniesDue v due NoMemory = ⊥
 
 -- from the number of the last entry that was begun on no entry is needed that is due, or the least one is denied
 abbrev pub JudgesDue : ProofJudgeView → ℕ → Result (Unit {0}) JudgeError → Type 0
-JudgesDue v due (Ok u) = (k : ℕ) → v.begun ≤ k → k < due → ¬ IsNeeded v.representatives v.saids k
+JudgesDue v due (Ok u) = (k : ℕ) → v.last_number ≤ k → k < due → ¬ IsNeeded v.representatives v.saids k
 JudgesDue v due (Err error) = DeniesDue v due error
 
 -- ---- the line

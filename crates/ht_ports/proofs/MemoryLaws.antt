@@ -10,8 +10,8 @@ use Rattle.ht_ports.specs.Memory.{memory_view}
 
 -- a port took more of its text
 pub reads_taken : (port : InPort) (m : MemoryDesk) (taken : PerInPort ℕ)
-    → ((p : InPort) → p ≢ port → at_in_port taken p ≡ at_in_port m.taken p)
-    → Reads port (memory_view m) (memory_view (record m { taken = taken }))
+    → ((p : InPort) → p ≢ port → at_in_port taken p ≡ at_in_port m.positions p)
+    → Reads port (memory_view m) (memory_view (record m { positions = taken }))
 reads_taken port m taken others = record {
   call = record {
     after = record { in_faults = le_refl _; out_faults = le_refl _; steady = refl };

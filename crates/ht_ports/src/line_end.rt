@@ -28,8 +28,8 @@ pub enum LineEnd {
     NoLine,
     /// The line is too long, or the text up to its end.
     TooLong,
-    /// The first `line` bytes are a line, which ends after `taken` bytes.
-    Line { line: usize, taken: usize },
+    /// The first `line` bytes are a line, which ends after `end` bytes.
+    Line { line: usize, end: usize },
 }
 
 /// Finds the end of the first line of the bytes that wait, whose first LF is at
@@ -50,17 +50,17 @@ pub fn find_line_end(bytes: &[u8], found: Option<usize>, max_len: u32, bytes_rea
     }
 }
 
-// The end of the line of a piece, of which `taken` bytes are taken with its LF.
-fn end_line(piece: &[u8], taken: usize, max_len: u32, bytes_read: u64) -> LineEnd
+// The end of the line of a piece, of which `end` bytes are read with its LF.
+fn end_line(piece: &[u8], end: usize, max_len: u32, bytes_read: u64) -> LineEnd
     requires bytes_read { bytes_read ≤ max_text_bytes }
-    ensures { EndsPiece max_len bytes_read piece.now taken result }
+    ensures { EndsPiece max_len bytes_read piece.now end result }
 {
     let line = line_len(piece);
     if line > max_len as usize {
         return LineEnd::TooLong;
     }
-    if taken as u64 > MAX_TEXT_BYTES - bytes_read {
+    if end as u64 > MAX_TEXT_BYTES - bytes_read {
         return LineEnd::TooLong;
     }
-    LineEnd::Line { line, taken }
+    LineEnd::Line { line, end }
 }

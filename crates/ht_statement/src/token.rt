@@ -73,8 +73,8 @@ pub(crate) fn first_token(text: &[u8]) -> Option<(LineToken<'_>, &[u8])>
     ensures shorter { IfSome result (λ parts. length parts.1.now < length text.now) }
     ensures none { IfNone result (tokens_of text.now ≡ []) }
 {
-    let begun = after_blanks(text);
-    let [first, after @ ..] = begun else {
+    let content = after_blanks(text);
+    let [first, after @ ..] = content else {
         return None;
     };
     if begins_comment(*first) {
@@ -83,6 +83,6 @@ pub(crate) fn first_token(text: &[u8]) -> Option<(LineToken<'_>, &[u8])>
     if let Some(mark) = mark_of(*first) {
         return Some((mark, after));
     }
-    let (word, rest) = split_word(begun);
+    let (word, rest) = split_word(content);
     Some((LineToken::Word(word), rest))
 }

@@ -19,9 +19,9 @@ pub record HeldState : Type 0 where
 
 -- a cell for each net of each frame, and room for the pins of the widest gate
 pub record IsHeld (a : Inside) : Type 0 where
-  pub window : IsWindow a.decided.window
-  pub few : a.decided.window.frames ≤ max_frames
-  pub count : length a.cells.values ≡ cell_count a.decided.window
+  pub window : IsWindow a.decisions.window
+  pub few : a.decisions.window.frames ≤ max_frames
+  pub count : length a.cells.values ≡ cell_count a.decisions.window
   pub pins : length a.pins.items ≡ 255
 
 -- where net x of frame f matters, it holds what it gets

@@ -7,7 +7,7 @@ use Rattle.ht_tree.specs.declared.token.Assign3.{Assign3}
 use Rattle.ht_tree.specs.Decisions.{decided_value}
 use Rattle.ht_tree.specs.Windows.{SearchWindow, IsWindow}
 use Rattle.ht_window.specs.Starts.{start_of}
-use Rattle.ht_window.specs.declared.decided.Decided.TheInside.{Inside}
+use Rattle.ht_window.specs.declared.decisions.Decisions.TheInside.{Inside}
 
 -- A window with the decisions that stand, in their order.
 pub record Standing : Type 0 where

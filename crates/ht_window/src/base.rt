@@ -9,7 +9,7 @@ ghost use Rattle.ht_window.specs.Renewals.{HoldsElsewhere, IsPlanFor};
 ghost use Rattle.ht_window.specs.Cells.{AreCells};
 ghost use Rattle.ht_window.specs.Matters.{is_relevant};
 
-use crate::decided::Decided;
+use crate::decisions::Decisions;
 use crate::frames::all_sets;
 use crate::held::Held;
 use crate::renew::follow_fault;
@@ -43,7 +43,7 @@ impl<'c> Window<'c> {
     }
 
     // A window before its first decision, in which all nets matter. The plan is that of its circuit's frames.
-    pub(crate) fn planned(
+    pub(crate) fn with_plan(
         alloc: Global,
         frame_plan: Rc<FramePlan<'c>>,
         setup: &Setup,
@@ -53,10 +53,10 @@ impl<'c> Window<'c> {
         ensures whole { IfOk result (λ w. w.relevant ≡ None) }
     {
         let circuit = frame_plan.circuit();
-        let decided = Decided::new(alloc, setup.start, circuit, setup.fault, setup.frames)?;
-        let sets = all_sets(alloc, &decided)?;
-        let held = Held::new(alloc, decided, sets)?;
-        let core = Core::planned(alloc, frame_plan, setup.frames)?;
+        let decisions = Decisions::new(alloc, setup.start, circuit, setup.fault, setup.frames)?;
+        let sets = all_sets(alloc, &decisions)?;
+        let held = Held::new(alloc, decisions, sets)?;
+        let core = Core::with_plan(alloc, frame_plan, setup.frames)?;
         Ok(Window::undecided(alloc, held, core))
     }
 
@@ -101,11 +101,11 @@ impl<'c> Window<'c> {
         ensures holds { IfOk result (λ h. HoldsElsewhere h self.now.window.fault) }
     {
         // for the proof: there is a cell for each net of each frame
-        let whole = self.held.decided();
+        let whole = self.held.decisions();
         let circuit = whole.circuit();
-        let decided = Decided::new(alloc, setup.start, circuit, setup.fault, setup.frames)?;
+        let decisions = Decisions::new(alloc, setup.start, circuit, setup.fault, setup.frames)?;
         let sets = self.held.front(alloc, setup.frames)?;
-        Held::new(alloc, decided, sets)
+        Held::new(alloc, decisions, sets)
     }
 
     // The window of cells that hold but for what two faults reach first and for the latches of the first frame.
@@ -143,7 +143,7 @@ impl<'c> Window<'c> {
         ensures new { IfOk result (IsNew held.entry.standing.window) }
         ensures relevant { IfOk result (λ w. w.relevant ≡ held.entry.relevant) }
     {
-        let core = Core::planned(alloc, frame_plan, held.decided().frames())?;
+        let core = Core::with_plan(alloc, frame_plan, held.decisions().frames())?;
         Window::settled(alloc, held, core, before)
     }
 
@@ -156,15 +156,15 @@ impl<'c> Window<'c> {
             return Ok(self);
         }
         let before = self.fault();
-        let whole = self.held.decided();
+        let whole = self.held.decisions();
         let (circuit, frames) = (whole.circuit(), whole.frames());
-        let decided = Decided::new(alloc, setup.start, circuit, setup.fault, frames)?;
+        let decisions = Decisions::new(alloc, setup.start, circuit, setup.fault, frames)?;
         let Window {
             held,
             core,
             marks: _,
         } = self;
-        Window::settled(alloc, held.under(decided), core, before)
+        Window::settled(alloc, held.under(decisions), core, before)
     }
 
     // The window of a setup, made of the first frames of this base. In a large circuit those nets alone matter that the
@@ -199,11 +199,11 @@ impl<'c> Window<'c> {
             self.now.window.start }
         ensures { IfOk result (IsNew (record self.now.window { frames = frames })) }
     {
-        let whole = self.held.decided();
-        let part = Decided::new(alloc, whole.start(), whole.circuit(), whole.fault(), frames)?;
+        let whole = self.held.decisions();
+        let part = Decisions::new(alloc, whole.start(), whole.circuit(), whole.fault(), frames)?;
         let sets = self.held.front(alloc, frames)?;
         let held = Held::new(alloc, part, sets)?;
-        let core = Core::planned(alloc, frame_plan, frames)?;
+        let core = Core::with_plan(alloc, frame_plan, frames)?;
         Ok(Window::undecided(alloc, held, core))
     }
 }

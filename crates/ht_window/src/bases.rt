@@ -138,7 +138,7 @@ impl<'c> Bases<'c> {
             frames: setup.frames,
             start: setup.start,
         };
-        Window::planned(alloc, self.plan()?, &base)
+        Window::with_plan(alloc, self.plan()?, &base)
     }
 
     // The base of a start's kind, or a new one where it has fewer frames than are asked for.

@@ -5,7 +5,7 @@ ghost use Rattle.ht_tree.specs.Windows.{is_undetermined};
 ghost use Rattle.ht_tree.specs.WindowStatus.{cube_latches, is_definite};
 ghost use Rattle.ht_window.specs.Seen.{cube_seen_of, cube_seen_with, cube_status_by};
 
-use crate::decided::value_at;
+use crate::decisions::value_at;
 use crate::window::Window;
 use ht_pairs::PairSet;
 use ht_tern::Tern;

@@ -5,7 +5,7 @@ ghost use Rattle.ht_tree.specs.Windows.{cell_at, first_latches, frame_inputs, la
 ghost use Rattle.ht_window.specs.Cells.{AreCells, blank, cell_count};
 ghost use Rattle.ht_window.specs.Matters.{is_relevant};
 
-use crate::decided::Decided;
+use crate::decisions::Decisions;
 use ht_events::MAX_FRAMES;
 use ht_frame::{MAX_GATE_PINS, capture, settle};
 use ht_pairs::PairSet;
@@ -19,49 +19,49 @@ fn room_for(alloc: Global, count: usize) -> Result<Vec<PairSet>, AllocError>
 }
 
 // Gives each input of a frame its set.
-fn write_inputs(decided: &Decided, frame: u32, vector: &mut [PairSet])
-    requires frame { frame < decided.now.window.frames }
-    requires room { length vector.old ≡ decided.now.window.circuit.inputs }
-    ensures { vector.new ≡ frame_inputs decided.now.window decided.now.path frame }
+fn write_inputs(decisions: &Decisions, frame: u32, vector: &mut [PairSet])
+    requires frame { frame < decisions.now.window.frames }
+    requires room { length vector.old ≡ decisions.now.window.circuit.inputs }
+    ensures { vector.new ≡ frame_inputs decisions.now.window decisions.now.path frame }
 {
-    for i in 0..decided.inputs() {
-        vector[i as usize] = decided.input(frame, i);
+    for i in 0..decisions.inputs() {
+        vector[i as usize] = decisions.input(frame, i);
     }
 }
 
 // Gives each latch of the first frame its set.
-fn write_latches(decided: &Decided, latches: &mut [PairSet])
-    requires { length latches.old ≡ length decided.now.window.circuit.dffs }
-    ensures { latches.new ≡ first_latches decided.now.window decided.now.path }
+fn write_latches(decisions: &Decisions, latches: &mut [PairSet])
+    requires { length latches.old ≡ length decisions.now.window.circuit.dffs }
+    ensures { latches.new ≡ first_latches decisions.now.window decisions.now.path }
 {
-    for j in 0..decided.dffs() {
-        latches[j as usize] = decided.first_latch(j);
+    for j in 0..decisions.dffs() {
+        latches[j as usize] = decisions.first_latch(j);
     }
 }
 
 // Gives each net of a frame its set, and the latches those that they take for the next one. What `vector`, `row` and
 // `pins` held before plays no part.
 fn run_frame(
-    decided: &Decided,
+    decisions: &Decisions,
     frame: u32,
     vector: &mut [PairSet],
     latches: &mut [PairSet],
     row: &mut [PairSet],
     pins: &mut [PairSet],
 )
-    requires frame { frame < decided.now.window.frames }
-    requires vector { length vector.old ≡ decided.now.window.circuit.inputs }
-    requires dffs { length latches.old ≡ length decided.now.window.circuit.dffs }
-    requires latches { latches.old ≡ latches_at decided.now.window decided.now.path frame }
-    requires row { length row.old ≡ net_count decided.now.window.circuit }
+    requires frame { frame < decisions.now.window.frames }
+    requires vector { length vector.old ≡ decisions.now.window.circuit.inputs }
+    requires dffs { length latches.old ≡ length decisions.now.window.circuit.dffs }
+    requires latches { latches.old ≡ latches_at decisions.now.window decisions.now.path frame }
+    requires row { length row.old ≡ net_count decisions.now.window.circuit }
     requires pins { length pins.old ≡ MAX_GATE_PINS }
-    ensures row { (x : ℕ) → x < net_count decided.now.window.circuit → get_or row.new x blank
-        ≡ cell_at decided.now.window decided.now.path frame x }
-    ensures latches { latches.new ≡ latches_at decided.now.window decided.now.path (frame + 1) }
+    ensures row { (x : ℕ) → x < net_count decisions.now.window.circuit → get_or row.new x blank
+        ≡ cell_at decisions.now.window decisions.now.path frame x }
+    ensures latches { latches.new ≡ latches_at decisions.now.window decisions.now.path (frame + 1) }
 {
-    let circuit = decided.circuit();
-    let fault = decided.fault();
-    write_inputs(decided, frame, vector);
+    let circuit = decisions.circuit();
+    let fault = decisions.fault();
+    write_inputs(decisions, frame, vector);
     settle(circuit, fault, vector, latches, row, pins);
     capture(circuit, fault, row, latches);
 }
@@ -71,23 +71,23 @@ fn run_frame(
 ///
 /// # Errors
 /// Out of memory.
-pub fn all_sets(alloc: Global, decided: &Decided) -> Result<Vec<PairSet>, AllocError>
-    requires { decided.now.window.frames ≤ MAX_FRAMES }
-    ensures count { IfOk result (λ sets. length sets.items ≡ cell_count decided.now.window) }
+pub fn all_sets(alloc: Global, decisions: &Decisions) -> Result<Vec<PairSet>, AllocError>
+    requires { decisions.now.window.frames ≤ MAX_FRAMES }
+    ensures count { IfOk result (λ sets. length sets.items ≡ cell_count decisions.now.window) }
     ensures cells { IfOk result
-        (λ sets. AreCells decided.now.window (is_relevant None) decided.now.path sets.items) }
+        (λ sets. AreCells decisions.now.window (is_relevant None) decisions.now.path sets.items) }
 {
-    let circuit = decided.circuit();
+    let circuit = decisions.circuit();
     let nets = circuit.nets() as usize;
     let mut vector = room_for(alloc, circuit.inputs() as usize)?;
     let mut latches = room_for(alloc, circuit.dffs() as usize)?;
     let mut row = room_for(alloc, nets)?;
     let mut pins = room_for(alloc, MAX_GATE_PINS)?;
-    let mut sets = Vec::with_capacity(alloc, decided.frames() as usize * nets)?;
-    write_latches(decided, &mut latches);
-    for frame in 0..decided.frames() {
+    let mut sets = Vec::with_capacity(alloc, decisions.frames() as usize * nets)?;
+    write_latches(decisions, &mut latches);
+    for frame in 0..decisions.frames() {
         run_frame(
-            decided,
+            decisions,
             frame,
             &mut vector,
             &mut latches,

@@ -11,7 +11,7 @@ ghost use Rattle.ht_window.specs.Cells.{cell_index, cell_count, env_at, latches_
 ghost use Rattle.ht_window.specs.Matters.{is_relevant};
 ghost use Rattle.ht_window.specs.Holding.{HeldState};
 
-use crate::decided::Decided;
+use crate::decisions::Decisions;
 use ht_events::{MAX_FRAMES, Plant};
 use ht_frame::{MAX_GATE_PINS, data_pin, gate_output, stem};
 use ht_pairs::PairSet;
@@ -24,7 +24,7 @@ use std::marker::Model;
 /// The decisions of a window, and one cell for each net of each frame.
 #[derive(Drop)]
 pub struct Held<'c> {
-    decided: Decided<'c>,
+    decisions: Decisions<'c>,
     cells: Cells<PairSet>,
     // the nets that matter; none: all do
     relevant: Option<Relevant>,
@@ -40,7 +40,7 @@ impl<'c> Model for Held<'c> {
     ghost use Rattle.ht_window.specs.Holding.{IsHeld};
 
     ghost view = { λ a. record {
-      standing = a.decided;
+      standing = a.decisions;
       cells = a.cells;
       relevant = a.relevant;
     } };
@@ -55,22 +55,22 @@ impl<'c> Held<'c> {
     /// Out of memory.
     pub fn new(
         alloc: Global,
-        decided: Decided<'c>,
+        decisions: Decisions<'c>,
         sets: Vec<PairSet>,
     ) -> Result<Held<'c>, AllocError>
-        requires few { decided.window.frames ≤ MAX_FRAMES }
-        requires count { length sets.items ≡ cell_count decided.window }
-        ensures standing { IfOk result (λ h. h.standing ≡ decided.entry) }
+        requires few { decisions.window.frames ≤ MAX_FRAMES }
+        requires count { length sets.items ≡ cell_count decisions.window }
+        ensures standing { IfOk result (λ h. h.standing ≡ decisions.entry) }
         ensures values { IfOk result (λ h. h.cells.values ≡ sets.items) }
         ensures trail { IfOk result (λ h. h.cells.trail ≡ []) }
         ensures whole { IfOk result (λ h. h.relevant ≡ None) }
     {
-        let circuit = decided.circuit();
+        let circuit = decisions.circuit();
         // for the proof: the circuit is well formed
         let _ = circuit.nets();
         let pins = vec![in alloc; PairSet::both_same(); MAX_GATE_PINS]?;
         Ok(Held {
-            decided,
+            decisions,
             cells: Cells::from_values(alloc, sets)?,
             relevant: None,
             pins,
@@ -78,23 +78,23 @@ impl<'c> Held<'c> {
     }
 
     /// The same cells for other decisions over as many nets and frames. All nets matter.
-    pub fn under(self, decided: Decided<'c>) -> Held<'c>
-        requires few { decided.window.frames ≤ MAX_FRAMES }
-        requires count { length self.cells.values ≡ cell_count decided.window }
-        ensures standing { result.standing ≡ decided.entry }
+    pub fn under(self, decisions: Decisions<'c>) -> Held<'c>
+        requires few { decisions.window.frames ≤ MAX_FRAMES }
+        requires count { length self.cells.values ≡ cell_count decisions.window }
+        ensures standing { result.standing ≡ decisions.entry }
         ensures values { result.cells.values ≡ self.entry.cells.values }
         ensures whole { result.relevant ≡ None }
     {
         // for the proof: the circuit is well formed
-        let _ = decided.circuit().nets();
+        let _ = decisions.circuit().nets();
         let Held {
-            decided: _,
+            decisions: _,
             cells,
             relevant: _,
             pins,
         } = self;
         Held {
-            decided,
+            decisions,
             cells,
             relevant: None,
             pins,
@@ -102,7 +102,7 @@ impl<'c> Held<'c> {
     }
 
     /// The window and its decisions.
-    pub fn decided(&self) -> &Decided<'c>
+    pub fn decisions(&self) -> &Decisions<'c>
         ensures standing { result.now ≡ self.now.standing }
         ensures window { IsWindow self.now.standing.window }
         ensures few { self.now.standing.window.frames ≤ MAX_FRAMES }
@@ -110,7 +110,7 @@ impl<'c> Held<'c> {
     {
         // for the proof: there is a cell for each net of each frame
         let _ = &self.cells;
-        &self.decided
+        &self.decisions
     }
 
     /// The present mark.
@@ -121,13 +121,13 @@ impl<'c> Held<'c> {
     }
 
     // The index of a net's cell in the one array of all frames.
-    fn place(&self, frame: u32, net: u32) -> u32
+    fn cell_index(&self, frame: u32, net: u32) -> u32
         requires frame { frame < self.now.standing.window.frames }
         requires net { net < net_count self.now.standing.window.circuit }
-        ensures place { result ≡ cell_index self.now.standing.window frame net }
+        ensures index { result ≡ cell_index self.now.standing.window frame net }
         ensures inside { result < length self.now.cells.values }
     {
-        let nets = self.decided.circuit().nets();
+        let nets = self.decisions.circuit().nets();
         frame * nets + net
     }
 
@@ -158,7 +158,7 @@ impl<'c> Held<'c> {
         requires net { net < net_count self.now.standing.window.circuit }
         ensures { result ≡ env_at self.now.standing.window self.now.cells.values frame net }
     {
-        self.cells.get(self.place(frame, net))
+        self.cells.get(self.cell_index(frame, net))
     }
 
     /// What latch j gets for a frame.
@@ -170,13 +170,13 @@ impl<'c> Held<'c> {
             frame) j (pair Unk Unk ∷ []) }
     {
         if frame == 0 {
-            return self.decided.first_latch(j);
+            return self.decisions.first_latch(j);
         }
-        let circuit = self.decided.circuit();
+        let circuit = self.decisions.circuit();
         // for the proof: the circuit is well formed
         let _ = circuit.nets();
         let net = circuit.dff_data(j);
-        data_pin(self.decided.fault(), j, self.cell(frame - 1, net.0))
+        data_pin(self.decisions.fault(), j, self.cell(frame - 1, net.0))
     }
 
     /// What a net of a frame gets, before its line.
@@ -191,21 +191,21 @@ impl<'c> Held<'c> {
             (latches_over self.old.standing.window self.old.standing.path self.old.cells.values
             frame) (env_at self.old.standing.window self.old.cells.values frame) net }
     {
-        let circuit = self.decided.circuit();
+        let circuit = self.decisions.circuit();
         let nets = circuit.nets();
         let inputs = circuit.inputs();
         let first_gate = inputs + circuit.dffs();
         if net < inputs {
-            return self.decided.input(frame, net);
+            return self.decisions.input(frame, net);
         }
         if net < first_gate {
             return self.latch(frame, net - inputs);
         }
-        let start = self.place(frame, 0) as usize;
+        let start = self.cell_index(frame, 0) as usize;
         let row = &self.cells.values()[start..start + nets as usize];
         gate_output(
             circuit,
-            self.decided.fault(),
+            self.decisions.fault(),
             row,
             &mut self.pins,
             net - first_gate,
@@ -223,7 +223,7 @@ impl<'c> Held<'c> {
             self.old.cells.values frame net }
     {
         let value = self.driver(frame, net);
-        stem(self.decided.fault(), net, value)
+        stem(self.decisions.fault(), net, value)
     }
 
     /// Changes a cell.
@@ -244,8 +244,8 @@ impl<'c> Held<'c> {
             ≡ length self.old.cells.trail + 1) }
         ensures err { OnErr result (self.new ≡ self.old) }
     {
-        let place = self.place(frame, net);
-        self.cells.set(place, value)?;
+        let index = self.cell_index(frame, net);
+        self.cells.set(index, value)?;
         Ok(())
     }
 
@@ -271,7 +271,7 @@ impl<'c> Held<'c> {
         ensures err { OnErr result (self.new ≡ self.old) }
     {
         // for the proof: the window is well formed
-        let _ = self.decided();
+        let _ = self.decisions();
         let value = self.evaluate(frame, net);
         self.set(frame, net, value)
     }
@@ -298,7 +298,7 @@ impl<'c> Held<'c> {
             (λ sets. sets.items ≡ take (frames * net_count self.now.standing.window.circuit)
             self.now.cells.values) }
     {
-        let count = frames as usize * self.decided.circuit().nets() as usize;
+        let count = frames as usize * self.decisions.circuit().nets() as usize;
         Vec::from_slice(alloc, &self.cells.values()[..count])
     }
 
@@ -316,11 +316,11 @@ impl<'c> Held<'c> {
         ensures frame { result.0 ≡ var_frame self.now.standing.window var }
         ensures net { result.1 ≡ var_net self.now.standing.window var }
     {
-        let inputs = self.decided.inputs();
-        let dffs = self.decided.dffs();
+        let inputs = self.decisions.inputs();
+        let dffs = self.decisions.dffs();
         // for the proof: the circuit is well formed
-        let _ = self.decided.circuit().nets();
-        if var < self.decided.frames() * inputs {
+        let _ = self.decisions.circuit().nets();
+        if var < self.decisions.frames() * inputs {
             (var / inputs, var % inputs)
         } else if var < inputs + dffs {
             (0, var)
@@ -342,7 +342,7 @@ impl<'c> Held<'c> {
             ++ record { var = var; value = value } ∷ []) }
         ensures err { OnErr result (self.new ≡ self.old) }
     {
-        self.decided.push(var, value)
+        self.decisions.push(var, value)
     }
 
     /// The first `count` decisions alone, and the cells as at a mark.
@@ -358,7 +358,7 @@ impl<'c> Held<'c> {
         ensures exact { (a : CellsState (List Pair)) → IsLater a self.old.cells → mark.0
             ≡ length a.trail → self.new.cells ≡ a }
     {
-        self.decided.truncate(count);
+        self.decisions.truncate(count);
         self.cells.undo(mark);
     }
 }
@@ -382,7 +382,7 @@ impl<'c> Plant for Held<'c> {
 
     #[inline(always)]
     fn recompute(&mut self, frame: u32, local: u32) -> Result<bool, AllocError> {
-        let net = self.decided().inputs() + local;
+        let net = self.decisions().inputs() + local;
         if !self.matters(frame, net) {
             return Ok(false);
         }

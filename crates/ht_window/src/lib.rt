@@ -9,7 +9,7 @@
 //! | File | Holds |
 //! |---|---|
 //! | start | what the latches of the first frame are |
-//! | decided | the decisions, and the value of each variable |
+//! | decisions | the decisions, and the value of each variable |
 //! | frames | the sets of a whole window, frame by frame |
 //! | held | the decisions and the cells: the plant of the events |
 //! | window | `decide`, `mark`, `undo`, `cell`, `next_state` |
@@ -27,7 +27,7 @@ mod back;
 mod base;
 mod bases;
 mod cube;
-mod decided;
+mod decisions;
 mod frames;
 mod held;
 mod places;

@@ -9,7 +9,7 @@ ghost use Rattle.ht_window.specs.Starts.{marked};
 ghost use Rattle.ht_window.specs.Matters.{is_relevant};
 ghost use Rattle.ht_window.specs.Seen.{shows, shows_at};
 
-use crate::decided::is_set;
+use crate::decisions::is_set;
 use crate::start::Start;
 use crate::window::Window;
 use ht_pairs::PairSet;

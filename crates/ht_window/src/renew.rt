@@ -70,9 +70,9 @@ fn renew_line(held: &mut Held, core: &mut Core, fault: Option<Fault>) -> Result<
         → begins_at held.old.standing.window.circuit fault x ≡ true
         → HoldsOrPends core.new held.new f x) }
 {
-    let decided = held.decided();
-    let frames = decided.frames();
-    let Some(net) = first_reached(decided.circuit(), fault) else {
+    let decisions = held.decisions();
+    let frames = decisions.frames();
+    let Some(net) = first_reached(decisions.circuit(), fault) else {
         return Ok(());
     };
     for frame in 0..frames {
@@ -89,8 +89,8 @@ fn renew_latches(held: &mut Held, core: &mut Core) -> Result<(), AllocError>
         → x < first_gate_net held.old.standing.window.circuit
         → HoldsOrPends core.new held.new 0 x) }
 {
-    let decided = held.decided();
-    let circuit = decided.circuit();
+    let decisions = held.decisions();
+    let circuit = decisions.circuit();
     // for the proof: the circuit is well formed
     let _ = circuit.nets();
     let inputs = circuit.inputs();
@@ -120,7 +120,7 @@ pub fn follow_fault(
     ensures cells { OnOk result (AreCells held.old.standing.window
         (is_relevant held.old.relevant) held.old.standing.path held.new.cells.values) }
 {
-    let fault = held.decided().fault();
+    let fault = held.decisions().fault();
     renew_line(held, core, before)?;
     renew_line(held, core, fault)?;
     renew_latches(held, core)?;

@@ -8,7 +8,7 @@ ghost use Rattle.ht_tern.specs.declared.tern.Tern.TheVariants.{Unk};
 ghost use Rattle.ht_pairs.specs.Pairs.{same_tern};
 ghost use Rattle.ht_window.specs.Matters.{is_relevant};
 
-use crate::decided::{Decided, is_set, value_at};
+use crate::decisions::{Decisions, is_set, value_at};
 use crate::held::Held;
 use crate::start::Start;
 use ht_events::{FramePlan, MAX_FRAMES};
@@ -58,26 +58,26 @@ fn outside(alloc: Global, z: &[bool], dffs: u32) -> Result<Vec<bool>, AllocError
 // The nets that matter to a window of a fault.
 fn relevant_to(
     alloc: Global,
-    decided: &Decided,
+    decisions: &Decisions,
     frame_plan: &FramePlan,
     fault: Fault,
 ) -> Result<Relevant, AllocError>
-    requires circuit { frame_plan.now.circuit ≡ decided.now.window.circuit }
-    requires fault { decided.now.window.fault ≡ Some fault }
-    requires few { decided.now.window.frames ≤ MAX_FRAMES }
-    ensures { IfOk result (λ r. IsRelevant decided.now.window (matters r)) }
+    requires circuit { frame_plan.now.circuit ≡ decisions.now.window.circuit }
+    requires fault { decisions.now.window.fault ≡ Some fault }
+    requires few { decisions.now.window.frames ≤ MAX_FRAMES }
+    ensures { IfOk result (λ r. IsRelevant decisions.now.window (matters r)) }
 {
     // for the proof: the window is well formed
-    let _ = decided.circuit();
-    let frames = decided.frames();
-    match decided.start() {
+    let _ = decisions.circuit();
+    let frames = decisions.frames();
+    match decisions.start() {
         Start::OneFrame { z } => {
-            let counted = outside(alloc, z.as_slice(), decided.dffs())?;
+            let counted = outside(alloc, z.as_slice(), decisions.dffs())?;
             find_relevant(alloc, frame_plan, frames, fault, z.as_slice(), &counted)
         },
         Start::Pair { state } => {
             let good = state.good.as_slice();
-            let apart = differences(alloc, good, state.bad.as_slice(), decided.dffs())?;
+            let apart = differences(alloc, good, state.bad.as_slice(), decisions.dffs())?;
             find_relevant(alloc, frame_plan, frames, fault, &apart, &[])
         },
         Start::Unknown | Start::Back { cube: _, limit: _ } => find_relevant(
@@ -105,14 +105,14 @@ pub fn restrict(alloc: Global, frame_plan: &FramePlan, held: &mut Held) -> Resul
         (is_relevant held.new.relevant)) }
     ensures good { held.old.standing.window.fault ≡ None → held.new.relevant ≡ None }
 {
-    let decided = held.decided();
-    let Some(fault) = decided.fault() else {
+    let decisions = held.decisions();
+    let Some(fault) = decisions.fault() else {
         return Ok(());
     };
-    if is_small(decided.circuit()) {
+    if is_small(decisions.circuit()) {
         return Ok(());
     }
-    let relevant = relevant_to(alloc, decided, frame_plan, fault)?;
+    let relevant = relevant_to(alloc, decisions, frame_plan, fault)?;
     held.restrict(relevant);
     Ok(())
 }

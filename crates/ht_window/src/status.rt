@@ -10,7 +10,7 @@ ghost use Rattle.ht_tree.specs.Variables.{IsLegalChoice};
 ghost use Rattle.ht_tree.specs.WalkBack.{CanWalk, from_latch, from_place, pick_of};
 ghost use Rattle.ht_window.specs.Matters.{is_relevant};
 
-use crate::decided::value_at;
+use crate::decisions::value_at;
 use crate::places::Look;
 use crate::start::Start;
 use crate::window::Window;

@@ -73,7 +73,7 @@ fn follow(held: &mut Held, core: &mut Core, var: u32, choice: Tern) -> Result<()
         held.new.standing.path held.new.cells.values) }
 {
     // for the proof: the window is well formed
-    let _ = held.decided();
+    let _ = held.decisions();
     held.push(var, choice)?;
     let (frame, net) = held.var_place(var);
     held.write(frame, net)?;
@@ -109,7 +109,7 @@ impl<'c> Window<'c> {
             frames,
             start,
         };
-        Window::planned(alloc, frame_plan, &setup)
+        Window::with_plan(alloc, frame_plan, &setup)
     }
 
     /// One more decision: of a legal variable, numbered from 0, that is undecided. The cells follow it by events, each
@@ -206,22 +206,22 @@ impl<'c> Window<'c> {
         ensures valid { IsWindow self.now.window }
         ensures whole { self.now.window.fault ≡ None → self.now.relevant ≡ None }
     {
-        let decided = self.held.decided();
-        decided.circuit()
+        let decisions = self.held.decisions();
+        decisions.circuit()
     }
 
     // How many flip-flops the circuit has.
     pub(crate) fn dffs(&self) -> u32
         ensures { result ≡ length self.now.window.circuit.dffs }
     {
-        self.held.decided().dffs()
+        self.held.decisions().dffs()
     }
 
     // The window's fault.
     pub(crate) fn fault(&self) -> Option<Fault>
         ensures { result ≡ self.now.window.fault }
     {
-        self.held.decided().fault()
+        self.held.decisions().fault()
     }
 
     // How many frames the window has.
@@ -229,21 +229,21 @@ impl<'c> Window<'c> {
         ensures frames { result ≡ self.now.window.frames }
         ensures few { self.now.window.frames ≤ MAX_FRAMES }
     {
-        self.held.decided().frames()
+        self.held.decisions().frames()
     }
 
     // How the window starts.
     pub(crate) fn start(&self) -> &Start
         ensures { start_of result.now ≡ self.now.window.start }
     {
-        self.held.decided().start()
+        self.held.decisions().start()
     }
 
     // Whether the decisions give a variable a value.
     pub(crate) fn is_decided(&self, var: u32) -> bool
         ensures { result ≡ decides self.now.decisions var }
     {
-        self.held.decided().is_decided(var)
+        self.held.decisions().is_decided(var)
     }
 
     /// The variable of input i of a frame. Frames and inputs count from 0.
@@ -252,7 +252,7 @@ impl<'c> Window<'c> {
         requires input { i < self.now.window.circuit.inputs }
         ensures { result ≡ first_input self.now.window frame + i }
     {
-        self.held.decided().input_var(frame, i)
+        self.held.decisions().input_var(frame, i)
     }
 
     // Whether a net of a frame matters.
@@ -291,18 +291,18 @@ impl<'c> Window<'c> {
             (latches_at self.now.window self.now.decisions self.now.window.frames) j
             (pair Unk Unk ∷ []) }
     {
-        let decided = self.held.decided();
-        let circuit = decided.circuit();
+        let decisions = self.held.decisions();
+        let circuit = decisions.circuit();
         // for the proof: the circuit is well formed
         let _ = circuit.nets();
-        let last = decided.frames() - 1;
-        data_pin(decided.fault(), j, self.cell(last, circuit.dff_data(j)))
+        let last = decisions.frames() - 1;
+        data_pin(decisions.fault(), j, self.cell(last, circuit.dff_data(j)))
     }
 
     /// The value that the decisions give a variable; none where it is undecided.
     pub fn decided(&self, var: u32) -> Option<Tern>
         ensures { result ≡ decided_value self.now.decisions var }
     {
-        self.held.decided().value(var)
+        self.held.decisions().value(var)
     }
 }

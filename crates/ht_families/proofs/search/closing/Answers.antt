@@ -20,9 +20,9 @@ pub returns-then-includes_each : goal.returns-then-includes_each
 returns-then-includes_each c =
     let is = frame_run c.rounds.frame c.rounds.invariant.circuit c.rounds.invariant.fault c.deref.ensures.value
     c.run.ensures in
-    least_when c.args.circuit.now c.args.fault c.args.start.now c.rounds.family.items c.taken.result.now
-    c.run.new.self is c.rounds.invariant.grown c.taken.ensures.taken
-    (subst (λ (f : Family). IncludesEach f c.taken.result.now) c.deref-in-rounds.ensures.value
+    least_when c.args.circuit.now c.args.fault c.args.start.now c.rounds.family.items c.next_sets.result.now
+    c.run.new.self is c.rounds.invariant.grown c.next_sets.ensures.next_sets
+    (subst (λ (f : Family). IncludesEach f c.next_sets.result.now) c.deref-in-rounds.ensures.value
     (c.if-includes_each.ensures.0 refl))
     (λ m. not_true (c.if-may_differ.ensures.1 m))
 
@@ -32,7 +32,7 @@ rounds-smaller c =
     let next : Family = c.join_each.new.family in
     let items = with_items_is c.rounds.family next (omega arith) in
     let was = c.deref_mut.ensures.value in
-    let same = c.taken-in-rounds.ensures.taken ∙ sym c.taken.ensures.taken in
+    let same = c.next_sets-in-rounds.ensures.next_sets ∙ sym c.next_sets.ensures.next_sets in
     let long : length next ≡ length family = let e = ap length was in omega (arith, e) in
     let few : size_of next ≤ 9 * length family =
     subst (λ (f : Family). size_of next ≤ 9 * length f) was c.join_each.ensures.few in
@@ -40,7 +40,7 @@ rounds-smaller c =
       | inl all ↦
           absurd (not_true (c.if-includes_each.ensures.1
           (subst (λ (t : List (List Pair)). IncludesEach c.deref-in-rounds.result.now t) same
-          (subst (λ (f : Family). IncludesEach f c.taken-in-rounds.result.now)
+          (subst (λ (f : Family). IncludesEach f c.next_sets-in-rounds.result.now)
           (was ∙ sym c.deref-in-rounds.ensures.value) all))))
       | inr l ↦ subst (λ (f : Family). size_of f < size_of next) was l
     ] in
@@ -56,7 +56,7 @@ rounds-preserved c =
     let was = c.deref_mut.ensures.value in
     let is = frame_run c.rounds.frame c.rounds.invariant.circuit c.rounds.invariant.fault c.deref.ensures.value
     c.run.ensures in
-    let took = c.taken-in-rounds.ensures.taken ∙ is.taken in
+    let took = c.next_sets-in-rounds.ensures.next_sets ∙ is.next_sets in
     let long : length next ≡ length family = let e = ap length was in omega (arith, e) in
     record {
       circuit = is.circuit;

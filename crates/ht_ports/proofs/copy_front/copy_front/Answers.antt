@@ -6,8 +6,8 @@ use Rattle.ht_ports.proofs.copy_front.copy_front.Goals as goal
 pub returns-clause-copied : goal.returns-clause-copied
 returns-clause-copied c =
     let n = c.min-count.result in
-    let taken = c.args.taken in
+    let start = c.args.start in
     let xs = c.args.from.now in
-    let whole : take n (drop taken xs) ++ drop n (drop taken xs) ≡ drop taken xs = take-append-drop n (drop taken xs) in
-    let rest : drop n (drop taken xs) ≡ drop (taken + n) xs = drop-drop n taken xs in
+    let whole : take n (drop start xs) ++ drop n (drop start xs) ≡ drop start xs = take-append-drop n (drop start xs) in
+    let rest : drop n (drop start xs) ≡ drop (start + n) xs = drop-drop n start xs in
     grind (arith, common_steps)

@@ -5,9 +5,9 @@ use Rattle.ht_statement.proofs.token.first_token.Goals as goal
 
 pub returns-clause-first : goal.returns-clause-first
 returns-clause-first c =
-    let begun = c.after_blanks-begun.result.now in
-    let no_hash : begins_comment (get_or begun 0 0) ≡ false = search rules in
-    sym c.after_blanks-begun.ensures.tokens
-    ∙ first_word begun c.split_word.result.0.now c.split_word.result.1.now c.in-len1-up.len_at_least no_hash
-    c.after_blanks-begun.ensures.no_blank
+    let content = c.after_blanks-content.result.now in
+    let no_hash : begins_comment (get_or content 0 0) ≡ false = search rules in
+    sym c.after_blanks-content.ensures.tokens
+    ∙ first_word content c.split_word.result.0.now c.split_word.result.1.now c.in-len1-up.len_at_least no_hash
+    c.after_blanks-content.ensures.no_blank
     (no_mark c.mark_of.result _ c.mark_of.ensures c.in_default-mark_of.is) c.split_word.ensures

@@ -7,7 +7,7 @@ use Rattle.ht_window.proofs.frames.all_sets.Goals as goal
 
 pub loop-frame-init : goal.loop-frame-init
 loop-frame-init c =
-    let d = c.args.decided.now in
+    let d = c.args.decisions.now in
     let circuit = c.circuit-circuit.ensures.circuit in
     let L : List (List Pair) = c.write_latches.new.latches in
     let kept = with_items_is c.in_ok-latches.latches L (omega arith) in
@@ -25,7 +25,7 @@ loop-frame-init c =
 
 pub loop-frame-preserved : goal.loop-frame-preserved
 loop-frame-preserved c =
-    let d = c.args.decided.now in
+    let d = c.args.decisions.now in
     let l = c.loop-frame in
     let i = l.invariant in
     let r = c.run_frame in

@@ -6,10 +6,10 @@ use Rattle.ht_window.proofs.frames.all_sets.Given as goal
 
 abbrev pub invariant-loop-frame : goal.invariant-loop-frame
 invariant-loop-frame l = record {
-  vector : length l.vector.items ≡ l.decided.window.circuit.inputs;
-  dffs : length l.latches.items ≡ length l.decided.window.circuit.dffs;
-  latches : l.latches.items ≡ latches_at l.decided.window l.decided.path l.frame;
-  row : length l.row.items ≡ net_count l.decided.window.circuit;
+  vector : length l.vector.items ≡ l.decisions.window.circuit.inputs;
+  dffs : length l.latches.items ≡ length l.decisions.window.circuit.dffs;
+  latches : l.latches.items ≡ latches_at l.decisions.window l.decisions.path l.frame;
+  row : length l.row.items ≡ net_count l.decisions.window.circuit;
   pins : length l.pins.items ≡ 255;
-  sets : HasFrames l.decided.window l.decided.path l.frame l.sets.items;
+  sets : HasFrames l.decisions.window l.decisions.path l.frame l.sets.items;
 }

@@ -9,7 +9,7 @@ use Rattle.ht_window.proofs.frames.run_frame.Goals as goal
 
 pub returns-clause-latches : goal.returns-clause-latches
 returns-clause-latches c =
-    let d = c.args.decided.now in
+    let d = c.args.decisions.now in
     let w = d.window in
     let row = c.settle.new.values in
     let circuit : c.circuit-circuit.result.now ≡ w.circuit = c.circuit-circuit.ensures.circuit in

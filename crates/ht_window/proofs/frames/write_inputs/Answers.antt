@@ -6,9 +6,9 @@ use Rattle.ht_window.proofs.frames.write_inputs.Goals as goal
 
 pub returns : goal.returns
 returns c =
-    let w = c.args.decided.now.window in
+    let w = c.args.decisions.now.window in
     let t = c.loop-i-test.false in
     let n = c.inputs-i-end.ensures in
     let room = c.requires.room in
-    listed (input_set c.args.decided.now.path) (first_input w c.args.frame) w.circuit.inputs c.loop-i.vector blank
+    listed (input_set c.args.decisions.now.path) (first_input w c.args.frame) w.circuit.inputs c.loop-i.vector blank
     (omega (arith, room)) (λ k below. c.loop-i.invariant k (omega (arith, t, n, below)))

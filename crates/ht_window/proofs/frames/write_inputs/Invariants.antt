@@ -5,4 +5,4 @@ use Rattle.ht_window.proofs.frames.write_inputs.Given as goal
 
 abbrev pub invariant-loop-i : goal.invariant-loop-i
 invariant-loop-i l = (k : ℕ) → k < l.i → get_or l.vector k blank
-    ≡ input_set l.decided.path (first_input l.decided.window l.frame + k)
+    ≡ input_set l.decisions.path (first_input l.decisions.window l.frame + k)

@@ -6,8 +6,8 @@ use Rattle.ht_window.proofs.frames.write_latches.Goals as goal
 
 pub returns : goal.returns
 returns c =
-    let w = c.args.decided.now.window in
-    let path = c.args.decided.now.path in
+    let w = c.args.decisions.now.window in
+    let path = c.args.decisions.now.path in
     let t = c.loop-j-test.false in
     let n = c.dffs-j-end.ensures in
     let room = c.requires in

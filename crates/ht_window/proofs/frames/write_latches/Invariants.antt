@@ -5,4 +5,4 @@ use Rattle.ht_window.proofs.frames.write_latches.Given as goal
 
 abbrev pub invariant-loop-j : goal.invariant-loop-j
 invariant-loop-j l = (k : ℕ) → k < l.j → get_or l.latches k blank
-    ≡ first_latch l.decided.window l.decided.window.start l.decided.path k
+    ≡ first_latch l.decisions.window l.decisions.window.start l.decisions.path k

@@ -33,7 +33,7 @@ returns-clause-cells c =
     let first = renewed_more s s1 s2 a a1 a2 one.renewed two.renewed in
     let last = renewed_more s1 s2 t a1 a2 b two.renewed three.renewed in
     let whole = renewed_more s s2 t a a2 b first three.renewed in
-    let fault = c.fault-fault.ensures ∙ ap (λ (n : Standing). n.window.fault) c.decided.ensures.standing in
+    let fault = c.fault-fault.ensures ∙ ap (λ (n : Standing). n.window.fault) c.decisions.ensures.standing in
     let before : (f x : ℕ) → f < a.standing.window.frames → x < net_count a.standing.window.circuit
     → begins_at a.standing.window.circuit c.args.before x ≡ true → HoldsOrPends t b f x = λ f x fs xs reached.
     subst (λ (n : Standing). (g y : ℕ) → g < n.window.frames → y < net_count n.window.circuit → HoldsOrPends s1 a1 g y
@@ -60,7 +60,7 @@ returns-clause-cells c =
     (subst (λ (n : Standing). AreCells n.window (is_relevant b.relevant) n.path c.settle.new.plant.cells.values)
     whole.standing
     (all_followed t c.settle.new.self b c.settle.new.plant
-    (subst (λ (n : Standing). IsWindow n.window) (sym whole.standing) c.decided.ensures.window)
+    (subst (λ (n : Standing). IsWindow n.window) (sym whole.standing) c.decisions.ensures.window)
     (subst (λ (n : Standing). IsClosedBack n.window.circuit n.window.frames (is_relevant b.relevant))
     (sym whole.standing) closed)
     plan e.plan

@@ -12,19 +12,19 @@ renew-requires-clause-plan c = plan_renewed c.args.core.now c.loop-j.core c.args
 
 pub renew-requires-clause-frame : goal.renew-requires-clause-frame
 renew-requires-clause-frame c =
-    let f = legal_frame c.args.held.now.standing.window c.decided-decided.ensures.window 0 in
+    let f = legal_frame c.args.held.now.standing.window c.decisions-decisions.ensures.window 0 in
     let r = ap (λ (s : Standing). s.window.frames) c.loop-j.invariant.renewed.standing in
     omega (arith, f, r)
 
 -- the circuit is that of the window
 circuit : (c : goal.After-loop-j) → c.circuit-circuit.result.now ≡ c.args.held.now.standing.window.circuit
 circuit c = c.circuit-circuit.ensures.circuit ∙ ap (λ (s : Standing). s.window.circuit)
-    c.decided-decided.ensures.standing
+    c.decisions-decisions.ensures.standing
 
 pub renew-requires-clause-net : goal.renew-requires-clause-net
 renew-requires-clause-net c =
     let n : c.circuit-circuit.result.now ≡ c.args.held.now.standing.window.circuit = c.circuit-circuit.ensures.circuit
-    ∙ ap (λ (s : Standing). s.window.circuit) c.decided-decided.ensures.standing in
+    ∙ ap (λ (s : Standing). s.window.circuit) c.decisions-decisions.ensures.standing in
     let i = c.inputs-inputs.ensures ∙ ap (λ (k : Netlist). k.inputs) n in
     let d = c.dffs-j-end.ensures ∙ ap (λ (k : Netlist). length k.dffs) n in
     let t = c.loop-j-test.true in
@@ -35,11 +35,11 @@ pub loop-j-preserved : goal.loop-j-preserved
 loop-j-preserved c =
     let w = c.args.held.now.standing.window in
     let n : c.circuit-circuit.result.now ≡ w.circuit = c.circuit-circuit.ensures.circuit
-    ∙ ap (λ (s : Standing). s.window.circuit) c.decided-decided.ensures.standing in
+    ∙ ap (λ (s : Standing). s.window.circuit) c.decisions-decisions.ensures.standing in
     let i = c.inputs-inputs.ensures ∙ ap (λ (k : Netlist). k.inputs) n in
     let d = c.dffs-j-end.ensures ∙ ap (λ (k : Netlist). length k.dffs) n in
     let t = c.loop-j-test.true in
-    let some = legal_frame w c.decided-decided.ensures.window 0 in
+    let some = legal_frame w c.decisions-decisions.ensures.window 0 in
     let e = c.in_ok-renew.ensures in
     one_more_renewed c.args.core.now c.loop-j.core c.renew.new.core c.args.held.now c.loop-j.held c.renew.new.held
     (λ k. 0) (λ k. c.inputs-inputs.result + k) c.loop-j.j

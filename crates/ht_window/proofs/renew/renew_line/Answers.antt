@@ -14,13 +14,13 @@ pub renew-requires-clause-frame : goal.renew-requires-clause-frame
 renew-requires-clause-frame c =
     let t = c.loop-frame-test.true in
     let f = c.frames-frames.ensures in
-    let d = ap (λ (s : Standing). s.window.frames) c.decided-decided.ensures.standing in
+    let d = ap (λ (s : Standing). s.window.frames) c.decisions-decisions.ensures.standing in
     let r = ap (λ (s : Standing). s.window.frames) c.loop-frame.invariant.renewed.standing in
     omega (arith, t, f, d, r)
 
 pub renew-requires-clause-net : goal.renew-requires-clause-net
 renew-requires-clause-net c =
-    let s = ap (λ (s : Standing). net_count s.window.circuit) c.decided-decided.ensures.standing in
+    let s = ap (λ (s : Standing). net_count s.window.circuit) c.decisions-decisions.ensures.standing in
     let n = ap net_count c.circuit.ensures.circuit in
     let r = ap (λ (s : Standing). net_count s.window.circuit) c.loop-frame.invariant.renewed.standing in
     let i = c.in-Some.ensures.inside in
@@ -32,8 +32,8 @@ loop-frame-preserved c =
     let e = c.in_ok-renew.ensures in
     let t = c.loop-frame-test.true in
     let f = c.frames-frames.ensures in
-    let d = ap (λ (s : Standing). s.window.frames) c.decided-decided.ensures.standing in
-    let s = ap (λ (s : Standing). net_count s.window.circuit) c.decided-decided.ensures.standing in
+    let d = ap (λ (s : Standing). s.window.frames) c.decisions-decisions.ensures.standing in
+    let s = ap (λ (s : Standing). net_count s.window.circuit) c.decisions-decisions.ensures.standing in
     let n = ap net_count c.circuit.ensures.circuit in
     let i = c.in-Some.ensures.inside in
     one_more_renewed c.args.core.now c.loop-frame.core c.renew.new.core a c.loop-frame.held c.renew.new.held (λ k. k)
@@ -45,9 +45,9 @@ returns-clause-holds c = λ f x fs xs reached.
     let a = c.args.held.now in
     let t = c.loop-frame-test.false in
     let n = c.frames-frames.ensures in
-    let d = ap (λ (s : Standing). s.window.frames) c.decided-decided.ensures.standing in
+    let d = ap (λ (s : Standing). s.window.frames) c.decisions-decisions.ensures.standing in
     let circuit : c.circuit.result.now ≡ a.standing.window.circuit = c.circuit.ensures.circuit
-    ∙ ap (λ (s : Standing). s.window.circuit) c.decided-decided.ensures.standing in
+    ∙ ap (λ (s : Standing). s.window.circuit) c.decisions-decisions.ensures.standing in
     let found : Some c.in-Some.net ≡ Some x = c.in-Some.ensures.only x
     (subst (λ (k : Netlist). x < net_count k) (sym circuit) xs)
     (ap (λ (k : Netlist). begins_at k c.args.fault x) circuit ∙ reached) in

@@ -7,7 +7,7 @@ use Rattle.ht_window.proofs.restrict.relevant_to.Goals as goal
 
 pub returns-in_ok-counted-in-OneFrame : goal.returns-in_ok-counted-in-OneFrame
 returns-in_ok-counted-in-OneFrame c =
-    let w = c.args.decided.now.window in
+    let w = c.args.decisions.now.window in
     let z = c.in-OneFrame.z in
     let marks = c.deref.result.now in
     let start : one_frame (marked 0 z) ≡ w.start = sym (ap start_of c.in-OneFrame.is) ∙ c.start.ensures in

@@ -17,14 +17,14 @@ pub write-requires-clause-frame : goal.write-requires-clause-frame
 write-requires-clause-frame c =
     let e = c.in_ok-push.ensures.window in
     let f = c.var_place-frame.ensures.frame in
-    let l = legal_frame c.push.new.self.standing.window (subst IsWindow (sym e) c.decided.ensures.window) c.args.var in
+    let l = legal_frame c.push.new.self.standing.window (subst IsWindow (sym e) c.decisions.ensures.window) c.args.var in
     omega (arith, f, l)
 
 pub touch_loads-requires-clause-frame : goal.touch_loads-requires-clause-frame
 touch_loads-requires-clause-frame c =
     let e = c.in_ok-push.ensures.window in
     let f = c.var_place-frame.ensures.frame in
-    let l = legal_frame c.push.new.self.standing.window (subst IsWindow (sym e) c.decided.ensures.window) c.args.var in
+    let l = legal_frame c.push.new.self.standing.window (subst IsWindow (sym e) c.decisions.ensures.window) c.args.var in
     let n = ap (λ (w : SearchWindow). w.frames) e in
     let k = c.requires.frames in
     omega (arith, f, l, n, k)
@@ -60,7 +60,7 @@ returns-clause-cells c =
     let frames : b.plan.frames ≡ w.frames = ap (λ (p : PlanState). p.frames) t.plan ∙ c.requires.frames in
     let count : item_count b.plan.circuit b.plan.frames ≡ item_count w.circuit w.frames =
     (λ i. item_count (circuit i) (frames i)) in
-    let known = c.decided.ensures in
+    let known = c.decisions.ensures in
     let quiet : QuietAgree b (item_agrees c.write.new.self) = λ y ys free.
     follow_agrees a c.push.new.self c.write.new.self d known.window known.count c.requires.closed c.requires.cells
     (omega (arith, n)) p.window p.relevant p.cells p.ok f x v.frame v.net q.standing q.relevant q.values y (omega (arith, ys, count))

@@ -17,7 +17,7 @@ returns-clause-advances c = inr (record {
   fault = c.args.fault;
   next = c.requires.next;
   work = c.requires.work;
-  after = ap (λ (v : EngineView). record v { grader = c.apply.new.self; place = c.args.fault + 1 }) c.self.view_is;
+  after = ap (λ (v : EngineView). record v { grader = c.apply.new.self; first_awaiting = c.args.fault + 1 }) c.self.view_is;
   graded = adds_graded (engine_of c.self.inside) c.args.self.now c.self.view_is c.apply.new.self
       c.in_ok-apply.ensures.same c.args.list.list c.in_ok-apply.ensures.added;
 })

@@ -14,7 +14,7 @@ no_entry i h = let l = h.among.1 in absurd (omega (arith, l))
 
 -- nothing is kept, so the engine stands for no steps
 new_stands : (e : EngineView) → IsStart e.circuit e.settings.start → HasGraded e []
-    → ((i : ℕ) → i < length e.representatives → kind_at e i ≡ None) → e.place ≡ 0
+    → ((i : ℕ) → i < length e.representatives → kind_at e i ≡ None) → e.first_awaiting ≡ 0
     → e.rest ≡ all_first e
     → IsNamedInvariant e.circuit e.settings.start e.settings.budget e.named_invariant
     → HoldsIfAny e.circuit e.named_invariant → EngineStandsFor e []
@@ -47,7 +47,7 @@ invariant_of-result c =
         representatives = tools.classes;
         budget = c.requires.budget;
         kinds = c.in_ok-no_kinds.ensures.each ∙ c.len.ensures;
-        place = omega arith;
+        first_awaiting = omega arith;
         found = c.in_ok-find_named.ensures.found;
         holds = c.in_ok-find_named.ensures.holds;
         latches = c.requires.latches;

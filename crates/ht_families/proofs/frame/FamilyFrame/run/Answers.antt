@@ -21,7 +21,7 @@ returns c =
     let V : List (List Pair) = c.settle.new.values in
     let T : List (List Pair) = c.capture.new.latches in
     let values = with_items_is a.values V (omega arith) in
-    let taken = with_items_is a.taken T (omega arith) in
+    let next_sets = with_items_is a.next_sets T (omega arith) in
     let settled : (x : ℕ) → x < net_count n → env_of blank V x ≡ net_value n r (any_vector n) family x =
     λ x inside. c.settle.ensures x inside
     ∙ ap (λ (t : List (List Pair)). net_value n r t family x) (c.deref.ensures.value ∙ c.self.invariant.vector) in
@@ -30,6 +30,6 @@ returns c =
     ∙ ap (λ (t : List (List Pair)). data_values r (env_of blank t) 0 n.dffs) (c.deref-2.ensures.value ∙ values) in
     let shown = shown_by n a.fault family _ c.self.invariant.circuit
     (λ x inside. ap (λ (t : List (List Pair)). env_of blank t x) values ∙ settled x inside) in
-    let takes = taken ∙ (took ∙ taken_by n a.fault family V c.self.invariant.circuit settled) in
-    (λ i. record { circuit = n; fault = a.fault; shown = shown i; taken = takes i })
+    let takes = next_sets ∙ (took ∙ taken_by n a.fault family V c.self.invariant.circuit settled) in
+    (λ i. record { circuit = n; fault = a.fault; shown = shown i; next_sets = takes i })
     ∙ ap (λ (f : FrameView). after_family f family) c.self.view_is

@@ -23,8 +23,8 @@ returns-in_err-judge_due-clause-judged c =
     let same : c.from_residual-in_err-judge_due.result ≡ Err c.in_err-judge_due.field-0.0 = search rules in
     rw (← c.self.view_is) (rw same (λ reader line called. due_stops c.self.inside reader line c.args.ended.now called
     c.follow.new.saids.items c.follow.ensures.fixed c.in_ok-judge_ended.field-0 c.in_ok-judge_ended.ensures.judged
-    c.self.invariant c.stands-stand.result c.stands-stand.ensures c.due.result
-    (c.due.ensures ∙ ap (due_by c.self.inside.follows c.stands-stand.result) c.len.ensures)
+    c.self.invariant c.stands-stand.result c.stands-stand.ensures c.due_count.result
+    (c.due_count.ensures ∙ ap (due_by c.self.inside.follows c.stands-stand.result) c.len.ensures)
     c.in_err-judge_due.field-0.0 c.in_err-judge_due.ensures))
 
 pub returns-in_err-judge_due-clause-followed : goal.returns-in_err-judge_due-clause-followed
@@ -32,19 +32,19 @@ returns-in_err-judge_due-clause-followed c =
     let same : c.from_residual-in_err-judge_due.result ≡ Err c.in_err-judge_due.field-0.0 = search rules in
     rw (← c.self.view_is) (rw same (λ reader line called. due_stops_following c.self.inside reader line
     c.args.ended.now called c.follow.new.saids.items c.follow.ensures.followed c.self.invariant c.stands-stand.result
-    c.due.result (c.due.ensures ∙ ap (due_by c.self.inside.follows c.stands-stand.result) c.len.ensures)
+    c.due_count.result (c.due_count.ensures ∙ ap (due_by c.self.inside.follows c.stands-stand.result) c.len.ensures)
     c.in_err-judge_due.field-0.0 c.in_err-judge_due.ensures))
 
 pub returns-clause-judged : goal.returns-clause-judged
 returns-clause-judged c =
     rw (← c.self.view_is) (λ reader line called. line_taken c.self.inside reader line c.args.ended.now called
     c.follow.new.saids.items c.follow.ensures.fixed c.in_ok-judge_ended.field-0 c.in_ok-judge_ended.ensures.judged
-    c.self.invariant c.stands-stand.result c.stands-stand.ensures c.due.result
-    (c.due.ensures ∙ ap (due_by c.self.inside.follows c.stands-stand.result) c.len.ensures)
-    c.begun-self-inside.result c.in_ok-judge_due.field-0 c.begun-self-inside.ensures c.in_ok-judge_due.ensures)
+    c.self.invariant c.stands-stand.result c.stands-stand.ensures c.due_count.result
+    (c.due_count.ensures ∙ ap (due_by c.self.inside.follows c.stands-stand.result) c.len.ensures)
+    c.last_number-self-inside.result c.in_ok-judge_due.field-0 c.last_number-self-inside.ensures c.in_ok-judge_due.ensures)
 
 pub returns-clause-followed : goal.returns-clause-followed
 returns-clause-followed c =
     rw (← c.self.view_is) (λ reader line called. line_followed c.self.inside reader line c.args.ended.now called
     c.follow.new.saids.items c.follow.ensures.followed c.self.invariant c.in_ok-judge_ended.field-0
-    c.in_ok-judge_ended.ensures.judged c.begun-self-inside.result)
+    c.in_ok-judge_ended.ensures.judged c.last_number-self-inside.result)

@@ -20,7 +20,7 @@ returns-clause-put c =
       file = ap Some (found c.args.name.now ∙ named_put texts new c.args.name.now name ∙ ap Some bytes);
       others = λ n other. ap Some (found n ∙ named_kept texts new n (λ same. other (same ∙ name)));
       ports = record {
-        left = λ i p. Some (drop (at_in_port desk.taken p)
+        left = λ i p. Some (drop (at_in_port desk.positions p)
             ((ap (λ l. opened_in l (at_in_port desk.opened p)) added ∙ opened_push texts new (at_in_port desk.opened p)
             (desk.opened_texts p)) i));
         written = refl;

@@ -59,10 +59,10 @@ returns-clause-value c =
     let first : c.inputs-inputs.result + c.dffs.result ≡ first_gate_net w.circuit = omega (arith, i, n, q) in
     let cells : c.values.result.now ≡ s.cells.values = c.values.ensures ∙ ap (λ (h : HeldState). h.cells.values)
     c.self.view_is in
-    let row = take (c.place-start.result + c.nets-nets.result - c.place-start.result)
-    (drop c.place-start.result c.values.result.now) in
-    let start : c.place-start.result ≡ cell_index w c.args.frame 0 = c.place-start.ensures.place in
-    let some : c.place-start.result + c.nets-nets.result - c.place-start.result
+    let row = take (c.cell_index-start.result + c.nets-nets.result - c.cell_index-start.result)
+    (drop c.cell_index-start.result c.values.result.now) in
+    let start : c.cell_index-start.result ≡ cell_index w c.args.frame 0 = c.cell_index-start.ensures.index in
+    let some : c.cell_index-start.result + c.nets-nets.result - c.cell_index-start.result
     ≡ net_count w.circuit = omega (arith, nets) in
     let is : row ≡ take (net_count w.circuit) (drop (cell_index w c.args.frame 0) s.cells.values) =
     (λ i. take (some i) (drop (start i) (cells i))) in

@@ -12,7 +12,7 @@ returns-then-frame-eq0 c =
     → c.first_latch.result ≡ get_or (latches_over h.standing.window h.standing.path h.cells.values c.args.frame)
     c.args.j blank in
     subst P c.self.view_is
-    (λ js. c.first_latch.ensures ∙ latch_first a.decided.window a.decided.path a.cells.values c.args.frame c.args.j
+    (λ js. c.first_latch.ensures ∙ latch_first a.decisions.window a.decisions.path a.cells.values c.args.frame c.args.j
     c.if-frame-eq0.true js) c.requires.dff
 
 pub returns : goal.returns

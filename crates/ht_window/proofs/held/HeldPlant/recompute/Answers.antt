@@ -19,7 +19,7 @@ done : (c : goal.In_ok-set) → IsRecomputed c.args.self.now c.set.new.self
     (item_at c.args.self.now.standing.window.circuit c.args.frame c.args.local)
 done c =
     let b = c.set.new.self in
-    let d = c.decided.ensures in
+    let d = c.decisions.ensures in
     let f = c.args.frame in
     let x = c.inputs.result + c.args.local in
     let v = c.evaluate-value.result in
@@ -45,7 +45,7 @@ returns-then-eq-clause-agrees c =
     (sym c.cell.ensures ∙ c.eq.ensures.same_members.0 c.if-eq.true) in
     subst (λ (h : HeldState). item_agrees h (item_at a.standing.window.circuit f l)) (sym e.same)
     (net_agrees a f l x c.requires.local
-    (net_is _ _ c.inputs.result l c.inputs.ensures c.decided.ensures.standing) (λ m. held ∙ e.value))
+    (net_is _ _ c.inputs.result l c.inputs.ensures c.decisions.ensures.standing) (λ m. held ∙ e.value))
 
 -- and so does one whose net doesn't matter
 pub returns-then-not-matters-clause-agrees : goal.returns-then-not-matters-clause-agrees
@@ -55,7 +55,7 @@ returns-then-not-matters-clause-agrees c =
     let off = c.if-not-matters.true in
     let is = c.matters.ensures in
     net_agrees a c.args.frame l (c.inputs.result + l) c.requires.local
-    (net_is _ _ c.inputs.result l c.inputs.ensures c.decided.ensures.standing)
+    (net_is _ _ c.inputs.result l c.inputs.ensures c.decisions.ensures.standing)
     (λ m. absurd (false≢true (sym off ∙ (is ∙ m))))
 
 pub returns-clause-keeps : goal.returns-clause-keeps

@@ -20,7 +20,7 @@ settled-requires-clause-holds c =
     let start = start_of setup.start.now in
     let v = c.self.view_is in
     let base = c.requires.base in
-    let whole = c.decided-whole.ensures in
+    let whole = c.decisions-whole.ensures in
     let circuit : c.circuit-circuit.result.now ≡ w.circuit = c.circuit-circuit.ensures.circuit
     ∙ ap (λ (s : Standing). s.window.circuit) whole.standing in
     let frames : c.frames-frames.result ≡ w.frames = c.frames-frames.ensures
@@ -34,13 +34,13 @@ settled-requires-clause-holds c =
     let here : AreCells w (is_relevant None) [] a.cells.values =
     subst (λ (o : Option RelevantState). AreCells w (is_relevant o) [] a.cells.values) all
     (subst (λ (p : List Assign3). AreCells w (is_relevant a.relevant) p a.cells.values) none are) in
-    let decided : c.in_ok-decided.decided ≡ record {
+    let decisions : c.in_ok-decisions.decisions ≡ record {
       window = record w { fault = setup.fault; start = start };
       path = [];
-    } = c.in_ok-decided.ensures ∙ (λ i. record {
+    } = c.in_ok-decisions.ensures ∙ (λ i. record {
       window = record { circuit = circuit i; fault = setup.fault; frames = frames i; start = start };
       path = [];
     }) in
     subst (HoldsElsewhere c.under.result) fault (holds_elsewhere w whole.window [] c.under.result setup.fault start
-    (c.under.ensures.standing ∙ decided)
+    (c.under.ensures.standing ∙ decisions)
     (subst (λ (l : List (List Pair)). AreCells w (λ f x. true) [] l) (sym c.under.ensures.values) here))

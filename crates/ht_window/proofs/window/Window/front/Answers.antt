@@ -22,14 +22,14 @@ new-requires-2-clause-count c =
     let w = a.standing.window in
     let n = c.args.frames in
     let nets = net_count w.circuit in
-    let long = c.decided-whole.ensures.count in
+    let long = c.decisions-whole.ensures.count in
     let r = c.requires.few in
     let v = ap (λ (s : WindowState). s.window.frames) c.self.view_is in
     let m : n * nets ≤ w.frames * nets = mul-le-mul_right nets (omega (arith, r, v)) in
     let l : length (take (n * nets) a.cells.values) ≡ n * nets = length-take-le (n * nets) a.cells.values
     (omega (arith, m, long)) in
     let circuit : c.circuit.result.now ≡ w.circuit = c.circuit.ensures.circuit
-    ∙ ap (λ (s : Standing). s.window.circuit) c.decided-whole.ensures.standing in
+    ∙ ap (λ (s : Standing). s.window.circuit) c.decisions-whole.ensures.standing in
     ap length c.in_ok-sets.ensures ∙ (l ∙ (ap (λ (k : Netlist). n * net_count k) (sym circuit)
     ∙ sym (ap (λ (s : Standing). cell_count s.window) c.in_ok-part.ensures)))
 
@@ -37,7 +37,7 @@ new-requires-2-clause-count c =
 part : (c : In_ok-held) → c.in_ok-held.held.standing
     ≡ record { window = record c.self.inside.held.standing.window { frames = c.args.frames }; path = [] }
 part c =
-    let whole = c.decided-whole.ensures.standing in
+    let whole = c.decisions-whole.ensures.standing in
     let circuit : c.circuit.result.now ≡ c.self.inside.held.standing.window.circuit = c.circuit.ensures.circuit
     ∙ ap (λ (s : Standing). s.window.circuit) whole in
     let fault = c.fault.ensures ∙ ap (λ (s : Standing). s.window.fault) whole in

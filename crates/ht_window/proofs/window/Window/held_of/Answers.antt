@@ -21,7 +21,7 @@ returns-clause-holds c =
     let n = setup.frames in
     let v = c.self.view_is in
     let base = c.requires.base.base in
-    let whole = c.decided-whole.ensures in
+    let whole = c.decisions-whole.ensures in
     let few = c.requires.base.few in
     let long = ap (λ (s : WindowState). s.window.frames) v in
     let circuit : c.circuit-circuit.result.now ≡ w.circuit = c.circuit-circuit.ensures.circuit
@@ -39,10 +39,10 @@ returns-clause-holds c =
     let here : AreCells w (is_relevant None) [] a.cells.values =
     subst (λ (o : Option RelevantState). AreCells w (is_relevant o) [] a.cells.values) all
     (subst (λ (p : List Assign3). AreCells w (is_relevant a.relevant) p a.cells.values) none are) in
-    let decided : c.in_ok-decided.decided ≡ record {
+    let decisions : c.in_ok-decisions.decisions ≡ record {
       window = record w { frames = n; fault = setup.fault; start = start_of setup.start.now };
       path = [];
-    } = c.in_ok-decided.ensures ∙ (λ i. record {
+    } = c.in_ok-decisions.ensures ∙ (λ i. record {
       window = record {
         circuit = circuit i;
         fault = setup.fault;
@@ -54,7 +54,7 @@ returns-clause-holds c =
     let front = front_cells w [] n a.cells.values (omega (arith, few, long)) here in
     of_two c.new-2.result (λ b standing values.
     subst (HoldsElsewhere b) fault (holds_elsewhere (record w { frames = n }) valid [] b setup.fault
-    (start_of setup.start.now) (standing ∙ decided)
+    (start_of setup.start.now) (standing ∙ decisions)
     (subst (λ (l : List (List Pair)). AreCells (record w { frames = n }) (λ f x. true) [] l)
     (sym (values ∙ c.in_ok-sets.ensures)) front)))
     c.new-2.ensures.standing c.new-2.ensures.values

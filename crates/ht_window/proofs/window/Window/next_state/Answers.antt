@@ -10,8 +10,8 @@ use Rattle.ht_window.proofs.window.Window.next_state.Goals as goal
 pub returns : goal.returns
 returns c =
     let s = c.args.self.now in
-    let d = c.decided-decided.ensures in
-    let window : c.decided-decided.result.now.window ≡ s.window = ap (λ (t : Standing). t.window) d.standing ∙ ap
+    let d = c.decisions-decisions.ensures in
+    let window : c.decisions-decisions.result.now.window ≡ s.window = ap (λ (t : Standing). t.window) d.standing ∙ ap
     (λ (t : WindowState). t.window) c.self.view_is in
     let some = some_frames c.self.inside.held.standing.window d.window in
     let k = ap (λ (t : WindowState). t.window.frames) c.self.view_is in

@@ -2,7 +2,7 @@ use Rattle.std.proofs.Common.{ap, ◌∙◌, sym, arith, get_or, length, Bool, L
 use Rattle.ht_window.specs.Starts.{start_of}
 use Rattle.ht_window.specs.Standing.{Standing}
 use Rattle.ht_window.proofs.StartLaws.{latch_from}
-use Rattle.ht_window.proofs.decided.Decided.first_latch.Goals as goal
+use Rattle.ht_window.proofs.decisions.Decisions.first_latch.Goals as goal
 
 pub returns-in-OneFrame : goal.returns-in-OneFrame
 returns-in-OneFrame c =

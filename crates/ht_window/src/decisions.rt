@@ -21,7 +21,7 @@ use std::marker::Model;
 
 /// A window, its decisions in order, and the value of each variable.
 #[derive(Drop)]
-pub struct Decided<'c> {
+pub struct Decisions<'c> {
     circuit: &'c Circuit,
     fault: Option<Fault>,
     frames: u32,
@@ -30,7 +30,7 @@ pub struct Decided<'c> {
     values: Cells<Option<Tern>>,
 }
 
-impl<'c> Model for Decided<'c> {
+impl<'c> Model for Decisions<'c> {
     ghost use Rattle.ht_window.specs.Standing.{Standing};
 
     ghost Value = { Standing };
@@ -42,7 +42,7 @@ impl<'c> Model for Decided<'c> {
     ghost invariant = { IsStanding };
 }
 
-impl<'c> Decided<'c> {
+impl<'c> Decisions<'c> {
     /// A window from a start, before its first decision.
     ///
     /// # Errors
@@ -53,7 +53,7 @@ impl<'c> Decided<'c> {
         circuit: &'c Circuit,
         fault: Option<Fault>,
         frames: u32,
-    ) -> Result<Decided<'c>, AllocError>
+    ) -> Result<Decisions<'c>, AllocError>
         requires frames { frames ≤ MAX_FRAMES }
         requires start { IsStart circuit.now fault frames (start_of start.now) }
         ensures { IfOk result
@@ -69,7 +69,7 @@ impl<'c> Decided<'c> {
         let start = start.copied(alloc)?;
         let count = frames * inputs + (dffs + dffs);
         let values = Cells::from_values(alloc, vec![in alloc; None; count as usize]?)?;
-        Ok(Decided {
+        Ok(Decisions {
             circuit,
             fault,
             frames,

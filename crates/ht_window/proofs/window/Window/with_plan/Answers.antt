@@ -11,7 +11,7 @@ use Rattle.ht_window.specs.BaseStates.{IsNew}
 use Rattle.ht_window.specs.Cells.{AreCells}
 use Rattle.ht_window.specs.Matters.{is_relevant}
 use Rattle.ht_window.proofs.RestrictLaws.{whole_relevant}
-use Rattle.ht_window.proofs.window.Window.planned.Goals as goal
+use Rattle.ht_window.proofs.window.Window.with_plan.Goals as goal
 
 pub undecided-requires-clause-relevant : goal.undecided-requires-clause-relevant
 undecided-requires-clause-relevant c =
@@ -26,12 +26,12 @@ undecided-requires-clause-cells c =
     subst (λ (o : Option RelevantState). AreCells h.standing.window (is_relevant o) h.standing.path h.cells.values)
     (sym e.whole)
     (subst (λ (s : Standing). AreCells s.window (is_relevant None) s.path h.cells.values) (sym e.standing)
-    (subst (λ (l : List (List Pair)). AreCells c.in_ok-decided.decided.window (is_relevant None)
-    c.in_ok-decided.decided.path l) (sym e.values) c.in_ok-sets.ensures.cells))
+    (subst (λ (l : List (List Pair)). AreCells c.in_ok-decisions.decisions.window (is_relevant None)
+    c.in_ok-decisions.decisions.path l) (sym e.values) c.in_ok-sets.ensures.cells))
 
 pub returns-clause-new : goal.returns-clause-new
 returns-clause-new c =
     subst (λ (v : SearchWindow). IsNew v c.undecided.result)
-    (ap (λ (s : Standing). s.window) (c.in_ok-held.ensures.standing ∙ c.in_ok-decided.ensures)
+    (ap (λ (s : Standing). s.window) (c.in_ok-held.ensures.standing ∙ c.in_ok-decisions.ensures)
     ∙ ap (λ (k : Netlist). window_for k c.args.setup.now)
     (c.circuit-circuit.ensures ∙ ap (λ (p : FramePlanState). p.circuit) c.deref.ensures)) c.undecided.ensures.new

@@ -3,7 +3,7 @@ use Rattle.std.proofs.Math.ListN.{get_or-eq_default}
 use Rattle.ht_tree.specs.Decisions.{decided_value}
 use Rattle.ht_window.specs.Standing.{Standing}
 use Rattle.ht_window.proofs.ValueLaws.{value_now}
-use Rattle.ht_window.proofs.decided.Decided.value.Goals as goal
+use Rattle.ht_window.proofs.decisions.Decisions.value.Goals as goal
 
 pub returns-then-var-len : goal.returns-then-var-len
 returns-then-var-len c =

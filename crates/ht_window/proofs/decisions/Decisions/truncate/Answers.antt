@@ -2,7 +2,7 @@ use Rattle.std.proofs.Common.{◌∙◌, drop, ap, arith, length}
 use Rattle.ht_trail.proofs.TrailLaws.{restored_length}
 use Rattle.ht_window.specs.Standing.{Standing}
 use Rattle.ht_window.proofs.ValueLaws.{value_undo}
-use Rattle.ht_window.proofs.decided.Decided.truncate.Goals as goal
+use Rattle.ht_window.proofs.decisions.Decisions.truncate.Goals as goal
 
 pub invariant_of-self : goal.invariant_of-self
 invariant_of-self c =

@@ -3,7 +3,7 @@ use Rattle.std.proofs.lemmas.List.{length-set, length_push}
 use Rattle.ht_tree.specs.declared.token.Assign3.{Assign3}
 use Rattle.ht_window.specs.Standing.{Standing, variable_room, IsValueHistory}
 use Rattle.ht_window.proofs.ValueLaws.{value_push}
-use Rattle.ht_window.proofs.decided.Decided.push.Goals as goal
+use Rattle.ht_window.proofs.decisions.Decisions.push.Goals as goal
 
 pub invariant_of-self-in-Ok : goal.invariant_of-self-in-Ok
 invariant_of-self-in-Ok c =
