@@ -79,6 +79,8 @@ fn read_again<'a>(alloc: Global, line: &'a [u8]) -> Result<Statement<'a>, AllocE
 }
 
 /// The first line, from 1, that has a net in a role.
+// The text is read again for an undriven net or a cycle alone, so a netlist that is accepted pays nothing for line
+// numbers.
 pub(crate) fn first_line(
     alloc: Global,
     text: &[u8],

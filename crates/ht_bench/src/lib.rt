@@ -1,4 +1,5 @@
-//! The reader and the writer of netlists (ISCAS-89 bench format).
+//! The reader and the writer of netlists (ISCAS-89 bench format: F. Brglez, D. Bryan, K. Kozminski, "Combinational
+//! Profiles of Sequential Benchmark Circuits", 1989).
 //!
 //! `read` gives the circuit of a netlist, or the one refusal of a text that is none. `specs/Text.antt` says which texts
 //! are netlists of which circuits, and how every other text is refused. What one line states is ht_statement's.

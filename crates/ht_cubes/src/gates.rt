@@ -73,6 +73,8 @@ impl<'a> GateLines<'a> {
 }
 
 /// What the output of a gate needs of its pins.
+// A rail says that a value is sure, and a sure output needs sure pins: so clauses lead from the output to the pins
+// only. Where a value is unknown both rails are false, so there is no third.
 pub(crate) fn push_gate(
     alloc: Global,
     rows: &mut Rows,

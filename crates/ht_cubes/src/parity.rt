@@ -9,6 +9,7 @@ use ht_items::FlatRows;
 use std::alloc::{AllocError, Global};
 
 /// The most pins of a parity for which each choice of their bits has a clause.
+// There are 2^n of these for n pins. A wider gate has none: its formula is weaker, and a refutation of it no less true.
 pub(crate) const MAX_PARITY_PINS: usize = 8;
 
 // Adds each row with a bit before it.

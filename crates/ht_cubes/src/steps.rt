@@ -43,7 +43,9 @@ fn is_number(rows: &Rows, hint: u32) -> bool
     hint != 0 && hint as usize <= rows.len()
 }
 
-// Whether the hints lead to a clause that fails.
+// Whether the hints lead to a clause that fails. What others found is followed and nothing is searched for, so each
+// hint is looked at once and no literal is watched: of its clause one signed variable is left, which becomes true, and
+// of the last one none.
 fn clash(values: &mut Cells<Option<bool>>, rows: &Rows, hints: &[u32]) -> Result<bool, AllocError>
     requires below { All (IsBelow (length values.old.values)) rows.now }
     ensures later { IsLater values.old values.new }

@@ -20,12 +20,13 @@ use ht_window::{Bases, PairState};
 use std::alloc::{AllocError, Global};
 
 /// The deep work on a fault, where the vectors so far lead the good and the faulty machine from the start to these
-/// states: the rounds of refutation; where they leave it open, a family that closes; where none does, the attempt at the
-/// first told frame and the sweep; and where these find nothing, a sweep from the states reached, with a budget of its
-/// own.
+/// states: the rounds of refutation; where they leave it open, a family that closes; where none does, the attempt at
+/// the first told frame and the sweep; and where these find nothing, a sweep from the states reached, with a budget of
+/// its own.
 ///
 /// # Errors
 /// Out of memory.
+// A refutation is asked for before a family, since *untestable* says more than *undetectable*.
 pub fn work_deep(
     alloc: Global,
     bases: &mut Bases,
@@ -62,8 +63,8 @@ pub fn work_deep(
     }
 }
 
-// The deep work on a fault that the rounds of refutation left open: by these told frames, and by the walk that spent the
-// budget after them unless they come to an output.
+// The deep work on a fault that the rounds of refutation left open: by these told frames, and by the walk that spent
+// the budget after them unless they come to an output.
 fn work_open(
     alloc: Global,
     bases: &mut Bases,

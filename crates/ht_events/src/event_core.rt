@@ -259,6 +259,10 @@ impl<'c> Core<'c> {
     /// # Errors
     /// Out of memory; some items may be pending. Here too, where every item that isn't pending agreed, it does
     /// afterwards.
+    // A load of an item stands after it in the order of all positions, so one walk by rising positions meets each item
+    // when all that it reads is final, and ends after as many items as there are at most: the proof's measure is a
+    // position. A mark is a bit, so 64 items that aren't pending are passed by one test, and an event is a sum and a
+    // comparison, since readers stand by their offsets. 76 percent of the time of `gen` goes here (docs/MEASURED.md).
     pub fn settle<P: Plant>(&mut self, plant: &mut P) -> Result<(), AllocError>
         requires circuit { P.circuit plant.old ≡ self.old.plan.circuit }
         requires frames { P.frames plant.old ≡ self.old.plan.frames }

@@ -6,6 +6,8 @@ ghost use Rattle.ht_events.specs.Items.{IsLoad, frame_items, item_at, item_count
 use std::alloc::AllocError;
 
 /// Cells of the items of a circuit over some frames, each of which agrees with its arguments or doesn't.
+// `Core` calls back here and knows nothing of cells, so its loop is proved once, for any plant. The cells of each
+// window are one (`Held` of ht_window).
 pub trait Plant {
     // the circuit and how many frames there are
     ghost circuit: { Self → Netlist };

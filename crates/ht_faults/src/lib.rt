@@ -5,9 +5,10 @@
 //! and pin, each site with stuck-at-0 and then stuck-at-1. The definition, `specs/Sites.antt`, filters all lines; the
 //! code walks the circuit's counts of loads.
 //!
-//! Structural equivalence collapsing (McCluskey and Clegg 1971): an input fault and an output fault of one gate are
-//! equivalent where the input's stuck value decides the output (`specs/Table.antt`); classes are the closure of these
-//! pairs (`specs/Classes.antt`). `collapse` gives the representative of each fault, the least number of its class.
+//! Structural equivalence collapsing (E. J. McCluskey, F. W. Clegg, "Fault Equivalence in Combinational Logic
+//! Networks", 1971): an input fault and an output fault of one gate are equivalent where the input's stuck value
+//! decides the output (`specs/Table.antt`); classes are the closure of these pairs (`specs/Classes.antt`), which the
+//! code never builds. `collapse` gives the representative of each fault, the least number of its class.
 //! `members_run_alike` says what a class is for: its members give equal outputs and equal states in every run, so one
 //! of them stands for all.
 //!

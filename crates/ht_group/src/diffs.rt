@@ -25,6 +25,8 @@ impl Default for Diff {
 }
 
 /// The latches where a machine differs from the good one, with their values. Up to four need no allocation.
+// They are all that is kept of a machine from one vector to the next, in place of its state (PROOFS 1992). A fault that
+// isn't detected takes 110 to 120 bytes of the process in chains of gates (docs/MEASURED.md).
 #[derive(Drop)]
 pub struct Diffs {
     entries: SmallVec<Diff, 4>,

@@ -22,6 +22,9 @@ use ht_net::{Circuit, Fault, Site};
 use std::alloc::{AllocError, Global};
 
 /// Up to 64 machines of a circuit, each with a fault and latches of its own, in the lanes of a word.
+// One evaluation of a gate serves 64 machines, and a machine comes with nothing but its fault and the latches that
+// differ: all else is the good frame, over which the words lie (T. M. Niermann, W.-T. Cheng, J. H. Patel, "PROOFS: A
+// Fast, Memory-Efficient Sequential Circuit Fault Simulator", 1992).
 #[derive(Drop)]
 pub struct Machines {
     /// The faults, one a lane.

@@ -26,7 +26,8 @@ pub struct Invariant {
     pub clauses: Items<Clause>,
 }
 
-// The rounds: the first that drops none gives the walks.
+// The rounds: the first that drops none gives the walks. A clause was searched under all that were kept then, so where
+// one is dropped the others are searched again. A round costs at most 32 searches.
 fn close_clauses(
     alloc: Global,
     window: Window,

@@ -70,6 +70,8 @@ fn with_polarity_four(kind: Kind, v: &[Word; 4]) -> [Word; 4]
 
 /// The value of a gate in each lane of four words, from the words at its pins, in the order of the pins (Kleene logic).
 /// Word i is what `eval_word` gives of the words i; the four are evaluated at once, in wide registers (`std::simd`).
+// A bare loop in C does 400 million words a second four by four and 150 million one by one; with AVX2, which the kit's
+// target doesn't use, it does 650 million (docs/MEASURED.md).
 pub fn eval_four(kind: Kind, args: &[[Word; 4]]) -> [Word; 4]
     requires { HasArity kind (length args.now) }
     ensures { (i : ℕ) → i < 4

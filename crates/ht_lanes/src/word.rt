@@ -12,6 +12,8 @@ use std::marker::Model;
 use std::simd::u64x4;
 
 /// 64 three-valued values, one in each lane. Lanes count from 0; a set of lanes is a number with a bit for each.
+// Two words of bits, one for Zero and one for One, make AND and OR two operations for 64 machines and the complement an
+// exchange.
 #[derive(Clone, Copy, Debug)]
 pub struct Word {
     /// A bit for each lane that is Zero.

@@ -73,6 +73,10 @@ impl Firsts {
 }
 
 /// Where effects end in a frame, the faults that were the first to arrive at a stem, and those that follow them.
+// Faults that hold the good latches and arrive at a stem with one value show the same in the frame, so one lane serves
+// them all (H. K. Lee, D. S. Ha, "HOPE: An Efficient Parallel Fault Simulator for Synchronous Sequential Circuits",
+// 1996). Over 20,000 gates and 400 vectors `sim` takes 0.63 times the seconds of plain Rust without it, which was as
+// fast as `sim` before (docs/MEASURED.md).
 #[derive(Drop)]
 pub struct Stems<'c> {
     /// Whether it was found in this frame where effects end. If not, each fault takes a lane.

@@ -19,6 +19,7 @@ pub struct Point {
 }
 
 /// What a search judges, decides and takes back.
+// `search` calls back here and knows no window, so all searches have one theorem, whose proof speaks of no cell.
 pub trait Problem {
     /// What is searched. No call changes it.
     ghost Subject: { Type 0 };

@@ -21,7 +21,9 @@ pub enum StepAnswer {
     Spent,
 }
 
-// Decides the chosen variable to its first value; the others are put off.
+// Decides the chosen variable to its first value; the others are put off. Only inputs and latches at a window's start
+// are variables, and each of their values is tried: where none is left what is searched for is shown nowhere. That is
+// PODEM (P. Goel, "An Implicit Enumeration Algorithm to Generate Tests for Combinational Logic Circuits", 1981).
 fn branch<P: Problem>(
     problem: &mut P,
     progress: &mut SearchProgress,

@@ -28,6 +28,8 @@ fn first_opposite(row: &[Tern], machine: &Machine) -> Option<u32>
 /// there the least output, where what it shows in its run from all-unknown and what was observed are opposite definite
 /// values. Without a fault it is the good machine.
 ///
+/// A detection is a contradiction of what the good machine shows, so this one loop finds both.
+///
 /// # Errors
 /// Out of memory.
 pub fn first_contradiction(

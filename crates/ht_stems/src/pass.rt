@@ -110,7 +110,9 @@ impl<'a> LoadedCircuit<'a> {
         NetEnds { zero, one, unknown }
     }
 
-    // Writes where the effects of the gates' nets end, each after the gates that read it.
+    // Writes where the effects of the gates' nets end, each after the gates that read it. So where a net has one load,
+    // a gate, the ends of that gate's net stand in the table, and no effect is followed twice. This pass is 31 percent
+    // of the time of `sim` and 58 of that of `compact` (docs/MEASURED.md).
     fn write_gates(&self, values: &mut [Tern], pins: &mut [Tern], ends: &mut [NetEnds])
         requires tables { ArePassTables self.now.circuit.now self.now.loads.now values.old pins.old
             ends.old }
@@ -127,8 +129,8 @@ impl<'a> LoadedCircuit<'a> {
         }
     }
 
-    /// Writes where the effects of all nets end, each gate evaluated twice at most for each net that only it reads. What
-    /// `ends` and `pins` held before plays no part; the values are the same afterwards.
+    /// Writes where the effects of all nets end, each gate evaluated twice at most for each net that only it reads.
+    /// What `ends` and `pins` held before plays no part; the values are the same afterwards.
     pub fn write_ends(&self, values: &mut [Tern], pins: &mut [Tern], ends: &mut [NetEnds])
         requires tables { ArePassTables self.now.circuit.now self.now.loads.now values.old pins.old
             ends.old }

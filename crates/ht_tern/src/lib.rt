@@ -2,9 +2,9 @@
 //! pins.
 //!
 //! `Tern` is a value, `Kind` a kind of gate, `eval` the value of a gate, and `refines` says where one value tells all
-//! that another tells. The tables are Kleene's strong logic. What a gate makes of its operations is said once, for
-//! every domain of values: `GateOperations` has the operations, for `Tern` and `bool`, and `eval_over` folds them, as
-//! `specs/Gate.antt` defines.
+//! that another tells. The tables are the strong three-valued logic of S. C. Kleene, "Introduction to Metamathematics",
+//! 1952. What a gate makes of its operations is said once, for every domain of values: `GateOperations` has the
+//! operations, for `Tern` and `bool`, and `eval_over` folds them, as `specs/Gate.antt` defines.
 #![tactic(auto)]
 
 mod gate;

@@ -118,6 +118,8 @@ fn mark_output(
 ///
 /// # Errors
 /// Out of memory.
+// One walk back from the outputs serves all faults. What has no mark is closed forward, and all that a fault changes
+// lies in each closed set with its root, so no proof speaks of paths.
 pub fn find_exposed(
     alloc: Global,
     circuit: &Circuit,

@@ -107,6 +107,8 @@ impl<'c> Window<'c> {
 
     /// The walk back from a net that is undetermined in a frame, with a wanted bit, to a variable that is legal and
     /// undecided.
+    // The backtrace of Goel's PODEM, which goes on through the flip-flops into the frames before. A gate whose set has
+    // two members or more has an argument whose set has, so each step finds one and no step is taken back.
     pub fn walk_back(&self, frame: u32, net: NetId, wanted: bool) -> Choice
         requires frame { frame < self.now.window.frames }
         requires net { net.0 < net_count self.now.window.circuit }

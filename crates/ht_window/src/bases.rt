@@ -17,13 +17,15 @@ use std::mem;
 use std::rc::Rc;
 
 /// Windows before their first decision, one for each kind of start, of whose first frames a window that is asked for is
-/// made. In a small circuit they follow the fault and the start of each window, by events: windows of one frame, two frames
-/// and so on are asked for one after the other, and those of two faults are much alike after some frames. In a large one
-/// they are of the good machine and never change, and the nets that matter follow in the window that is made.
+/// made. In a small circuit they follow the fault and the start of each window, by events: windows of one frame, two
+/// frames and so on are asked for one after the other, and those of two faults are much alike after some frames, and
+/// unlike those of the good machine. In a large one they are of the good machine and never change, and the nets that
+/// matter follow in the window that is made.
 #[derive(Drop)]
 pub struct Bases<'c> {
     frame_plan: Rc<FramePlan<'c>>,
-    // at most one for each kind of start, as long as the longest that was asked for so far
+    // at most one for each kind of start, as long as the longest that was asked for so far; in one list, since a value
+    // with an optional window for each kind could be dropped in many ways, each to be proved
     windows: Vec<Window<'c>>,
 }
 

@@ -17,7 +17,9 @@ use ht_relevant::{Relevant, find_relevant};
 use ht_tern::Tern;
 use std::alloc::{AllocError, Global};
 
-// The fewest nets of a circuit in which finding those that matter takes less time than it saves.
+// The fewest nets of a circuit in which finding those that matter takes less time than it saves. In plain Rust the
+// windows of `gen` evaluate 0.35 times the cells over 6,000 gates and 0.15 times over 12,000, in 0.60 and 0.36 times
+// the seconds (docs/MEASURED.md).
 const FEWEST_NETS: u32 = 4_000;
 
 /// Whether a circuit is too small for finding the nets that matter to save time.
@@ -91,8 +93,8 @@ fn relevant_to(
     }
 }
 
-/// Leaves to a window of a fault the nets that matter. To one of the good machine all do, and in a small circuit they are
-/// not looked for.
+/// Leaves to a window of a fault the nets that matter. To one of the good machine all do, and in a small circuit they
+/// are not looked for.
 ///
 /// # Errors
 /// Out of memory; nothing is changed.

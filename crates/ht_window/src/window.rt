@@ -51,6 +51,9 @@ impl<'c> Model for Window<'c> {
 }
 
 // One more decision, which the cells follow. Where memory runs out the decision and some cells may be there already.
+// Only what reads a change is evaluated. Each old value goes on the trail, so to go back evaluates nothing and writes
+// only what was changed: 178,800 decisions of a wide window are made in 20.3 milliseconds and taken back in 0.5
+// (docs/MEASURED.md).
 fn follow(held: &mut Held, core: &mut Core, var: u32, choice: Tern) -> Result<(), AllocError>
     requires circuit { core.old.plan.circuit ≡ held.old.standing.window.circuit }
     requires frames { core.old.plan.frames ≡ held.old.standing.window.frames }
