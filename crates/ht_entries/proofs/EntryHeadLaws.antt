@@ -1,6 +1,5 @@
 -- The lines that begin an entry, and the others of a form's own: two with one text are one.
 use Rattle.std.proofs.Common.{arith, ap, ◌∙◌}
-use Rattle.std.proofs.lemmas.Fmt.{decimal_injective}
 use Rattle.std.proofs.lemmas.Bool.{ne_eqb}
 use Rattle.std.proofs.lemmas.List.{append_cancel_left}
 use Rattle.std.proofs.lemmas.List.Elements.{All-head, All-tail}
@@ -23,14 +22,11 @@ use Rattle.ht_entries.proofs.SpaceLaws.{IsNoSpace, parts_same, number_has_no_spa
 use Rattle.ht_entries.proofs.FromStateTextLaws.{first_text_same, clauses_same}
 use Rattle.ht_entries.proofs.BySetsTextLaws.{rows_same}
 use Rattle.ht_entries.proofs.CubeLineLaws.{cubes_same, steps_same}
+use Rattle.ht_entries.proofs.CubesTextLaws.{numbers_same}
 use Rattle.ht_entries.specs.ProofLines.{line_text, max_number}
 
 abbrev pub byte : List ℕ → ℕ → ℕ
 byte text i = get_or text i 0
-
--- numbers up to the greatest in a text are the same if their decimal texts are
-pub numbers_same : (m n : ℕ) → m ≤ max_number → n ≤ max_number → decimal m ≡ decimal n → m ≡ n
-numbers_same m n h i e = decimal_injective m n (omega (arith, h)) (omega (arith, i)) e
 
 -- what stands after the first space of a text
 abbrev pub after_space : List ℕ → List ℕ
