@@ -39,14 +39,6 @@ pub flat_map-map : {A B : Type 0} (f : B → List ℕ) (h : A → B) (xs : List 
 flat_map-map f h [] = refl
 flat_map-map f h (x ∷ xs) = ap (λ t. f (h x) ++ t) (flat_map-map f h xs)
 
--- two functions that agree at all members
-pub map_agree : {A B : Type 0} (f h : A → B) (P : A → Type 0) → ((x : A) → P x → f x ≡ h x)
-    → (xs : List A) → All P xs → map f xs ≡ map h xs
-map_agree f h P same [] all = refl
-map_agree f h P same (x ∷ xs) all =
-    ap (λ y. y ∷ map f xs) (same x (All-head P x xs all))
-    ∙ ap (λ l. h x ∷ l) (map_agree f h P same xs (All-tail P x xs all))
-
 -- what holds of all images
 pub All-map_always : {A B : Type 0} (P : B → Type 0) (f : A → B) → ((x : A) → P (f x))
     → (xs : List A) → All P (map f xs)
