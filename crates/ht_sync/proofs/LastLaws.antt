@@ -1,7 +1,7 @@
 -- The sets of latches after the last frame of a window: what a dead and a sure status say of them, and where the walk
 -- back begins.
 use Rattle.std.specs.List.{find, list_any}
-use Rattle.std.proofs.Common.{◌≡◌, ◌<◌, ◌+◌, ◌-◌, ℕ, suc, List, [], ◌∷◌, Bool, true, false, not, ◌&&◌, cond, Some, None, length, get_or, refl, sym, ◌∙◌, ap, inl, inr, arith, subst}
+use Rattle.std.proofs.Common.{◌≡◌, ◌<◌, ◌+◌, ◌-◌, ℕ, suc, List, [], ◌∷◌, Bool, true, false, cond, Some, None, length, get_or, refl, sym, ◌∙◌, ap, inl, inr, arith, subst}
 use Rattle.std.proofs.lemmas.Bool.{and_parts, both_ways, ltb-true, not_from_true, or_cases}
 use Rattle.std.proofs.lemmas.Bool.Decides.{nat_tests}
 use Rattle.ht_tern.specs.declared.tern.Tern.{Tern}
@@ -20,6 +20,7 @@ use Rattle.ht_tree.specs.declared.window.Spot.TheVariants.{State}
 use Rattle.ht_tree.proofs.MemberLaws.{member_range, none_passes}
 use Rattle.ht_tree.proofs.PlaceLaws.{taken_at}
 use Rattle.ht_tree.proofs.UndeterminedLaws.{forced_undetermined}
+use Rattle.ht_tree.proofs.BeginLaws.{undetermined_meets}
 use Rattle.ht_records.proofs.ListLaws.{found_member, range_member}
 use Rattle.ht_sync.specs.SyncWindows.{flip_flops, last_set, may_be_unknown, must_be_unknown, sync_status}
 
@@ -113,11 +114,6 @@ none_finds test [] y none h = absurd h
 none_finds test (x ∷ xs) y none h =
     none_found test (test x) x y xs refl (λ e k. none_finds test xs y e k) none h
 
-undetermined_by : (may more : Bool) → (may && not more) ≡ false → may ≡ true → more ≡ true
-undetermined_by true true h k = refl
-undetermined_by true false h k = cc
-undetermined_by false more h k = cc
-
 module _ (w : SearchWindow) (path : List Assign3) where
   abbrev must : ℕ → Bool
   must j = must_be_unknown (last_set w path j)
@@ -164,7 +160,7 @@ module _ (w : SearchWindow) (path : List Assign3) where
       let some = some_passes may js e.1 in
       let j = some.member in
       both_ways (undetermined j) (none_finds undetermined js j none some.listed)
-      (undetermined_by (may j) (undetermined j) (none_passes must js j some.listed e.0) some.passes)
+      (undetermined_meets (may j) (undetermined j) (none_passes must js j some.listed e.0) some.passes)
 
   -- a latch found to be undetermined is the circuit's, and more than one pair is left to it
   pub found_latch : (j : ℕ) → find undetermined js ≡ Some j
