@@ -2,6 +2,7 @@
 use Rattle.std.proofs.Common.{◌≡◌, ◌<◌, ◌+◌, ◌-◌, ◌/◌, ◌%◌, ◌⊎◌, inl, inr, ℕ, List, Bool, true, false, ◌||◌, length, refl, arith}
 use Rattle.std.specs.Prelude.{ltb, leb, ◌&&◌}
 use Rattle.std.proofs.lemmas.Bool.Decides.{nat_tests}
+use Rattle.std.proofs.lemmas.Bool.{ltb-true}
 use Rattle.ht_tern.specs.declared.tern.Tern.{Tern}
 use Rattle.ht_net.specs.Netlist.{Netlist, first_gate_net}
 use Rattle.ht_net.proofs.FrameLaws.{le_or_lt}
@@ -27,18 +28,15 @@ or_small : {X : Type 0} → (a b : Bool) → (a || b) ≡ true → (a ≡ true �
 or_small true b h f g = f refl
 or_small false b h f g = g h
 
-ltb_less : (a b : ℕ) → ltb a b ≡ true → a < b
-ltb_less a b h = grind (arith, nat_tests, h)
-
 latch_less : (c : Netlist) (var : ℕ) → is_latch c var ≡ true → var < first_gate_net c
-latch_less c var h = ltb_less var (first_gate_net c) (and_right (leb c.inputs var) (ltb var (first_gate_net c)) h)
+latch_less c var h = ltb-true var (first_gate_net c) (and_right (leb c.inputs var) (ltb var (first_gate_net c)) h)
 
 latch_small : (c : Netlist) (var : ℕ) → is_latch c var ≡ true → var < first_gate_net c + length c.dffs
 latch_small c var h = let l = latch_less c var h in omega (arith, l)
 
 faulty_small : (c : Netlist) (z : List ℕ) (var : ℕ) → is_faulty_latch c z var ≡ true → var < first_gate_net c
     + length c.dffs
-faulty_small c z var h = ltb_less var (first_gate_net c + length c.dffs)
+faulty_small c z var h = ltb-true var (first_gate_net c + length c.dffs)
     (and_left (ltb var (first_gate_net c + length c.dffs)) (is_in z (var - first_gate_net c))
     (and_right (leb (first_gate_net c) var)
     (ltb var (first_gate_net c + length c.dffs) && is_in z (var - first_gate_net c)) h))
