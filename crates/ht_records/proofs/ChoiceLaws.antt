@@ -7,7 +7,6 @@ use Rattle.ht_tern.specs.declared.tern.Tern.{Tern}
 use Rattle.ht_net.specs.Netlist.{Netlist, first_gate_net}
 use Rattle.ht_tree.specs.declared.token.Assign3.{Assign3}
 use Rattle.ht_tree.specs.declared.token.Choice.{Choice}
-use Rattle.ht_tree.specs.declared.token.Choice.TheVariants.{Two, Three}
 use Rattle.ht_tree.specs.declared.token.Status3.{Status3}
 use Rattle.ht_tree.specs.declared.token.Status3.TheVariants as status3
 use Rattle.ht_tree.specs.declared.window.Status.{Status}
@@ -22,7 +21,7 @@ use Rattle.ht_tree.specs.WalkBack.{pick_of, walk_back}
 use Rattle.ht_tree.proofs.BeginLaws.{some_frame, spot_undetermined, undetermined_meets}
 use Rattle.ht_tree.proofs.DecidedLaws.{decides_value}
 use Rattle.ht_tree.proofs.FirstLaws.{FoundFirst, FoundPassing, find_first, find_passing}
-use Rattle.ht_tree.proofs.PickLaws.{net_has_choice, open_has_choice}
+use Rattle.ht_tree.proofs.PickLaws.{net_has_choice, open_has_choice, none_legal}
 use Rattle.ht_tree.specs.declared.clause.Literal.{Literal}
 use Rattle.ht_tree.specs.Clauses.{AreKnown, is_decided_against, is_decided_to, latch_value, path_breaks, path_meets}
 use Rattle.ht_tree.specs.ClauseWindows.{ClauseWindow, IsClauseWindow, IsSought, Sought, breach, difference, is_one_frame, may_miss, must_miss, sought_status, status_under}
@@ -164,12 +163,6 @@ module _ (w : ClauseWindow) (path : List Assign3) (is : IsClauseWindow w) where
         | inr sure ↦ subst (λ (o : Option Choice). IsLegalChoice v path (choice_or other o))
             (sym (sought_none w.sought sure.0)) (clause_legal o.unbroken sure.1)
       ]
-
--- no choice is legal where all variables are decided
-none_legal : (w : SearchWindow) (path : List Assign3) → DecidesAll w path → (choice : Choice)
-    → IsLegalChoice w path choice → ⊥
-none_legal w path all (Two var first) h = let no : true ≡ false = sym (all.two var h.0) ∙ h.1 in cc
-none_legal w path all (Three var) h = let no : true ≡ false = sym (all.three var h.0) ∙ h.1 in cc
 
 -- where a path decides all variables, the status under clauses isn't open
 pub decided_not_open : (w : ClauseWindow) (path : List Assign3) → IsClauseWindow w → DecidesAll w.window path
