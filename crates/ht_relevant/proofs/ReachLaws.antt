@@ -65,7 +65,8 @@ module _ (c : Netlist) where
 
 -- ---- a window
 
-unmarked : (a b : Bool) → (a ≡ true → b ≡ true) → b ≡ false → a ≡ false
+-- a test from which another follows fails where that one does
+pub unmarked : (a b : Bool) → (a ≡ true → b ≡ true) → b ≡ false → a ≡ false
 unmarked a b h e = false_from_ne_true a (λ k. false≢true (sym e ∙ h k))
 
 module _ (w : SearchWindow) (valid : IsWindow w) (is : ℕ → ℕ → Bool) (reach : IsReach w is) (path : List Assign3)
