@@ -35,7 +35,8 @@ unforced stick None here v h = refl
 unforced stick (Some fault) here v h = ap (λ (b : Bool). cond b (stick fault.value v) v) (h fault refl)
 
 module _ (c : Netlist) where
-  stem_apart : (site : Site) (x : ℕ) → leads_to c site x ≡ false → is_stem site x ≡ false
+  -- a net that a site doesn't lead to isn't its stem
+  pub stem_apart : (site : Site) (x : ℕ) → leads_to c site x ≡ false → is_stem site x ≡ false
   stem_apart (Stem y) x h = h
   stem_apart (DffPin j) x h = refl
   stem_apart (GatePin g i) x h = refl
@@ -48,7 +49,8 @@ module _ (c : Netlist) where
       false≢true (sym h ∙ eq-eqb (first_gate_net c + g) (first_gate_net c + k)
       (ap (λ (n : ℕ). first_gate_net c + n) same))))
 
-  data_apart : (site : Site) (j : ℕ) → j < length c.dffs → leads_to c site (c.inputs + j) ≡ false
+  -- a flip-flop that a site doesn't lead to doesn't have its data pin
+  pub data_apart : (site : Site) (j : ℕ) → j < length c.dffs → leads_to c site (c.inputs + j) ≡ false
       → is_data_pin site j ≡ false
   data_apart (Stem y) j l h = refl
   data_apart (DffPin k) j l h = false_from_ne_true (eqb j k) (λ e.
