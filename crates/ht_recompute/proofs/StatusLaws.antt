@@ -5,7 +5,7 @@ use Rattle.std.specs.List.{range_with_len}
 use Rattle.ht_tern.specs.declared.tern.Tern.{Tern}
 use Rattle.ht_pairs.specs.Pairs.{Pair}
 use Rattle.ht_net.specs.Frame.{data_values, values_at}
-use Rattle.ht_net.proofs.ValueLaws.{seen_get}
+use Rattle.ht_net.proofs.ValueLaws.{seen_get, taken_get}
 use Rattle.ht_tree.specs.declared.token.Assign3.{Assign3}
 use Rattle.ht_tree.specs.declared.window.Spot.{Spot}
 use Rattle.ht_tree.specs.declared.window.Spot.TheVariants.{Output, State, Cube}
@@ -13,7 +13,6 @@ use Rattle.ht_tree.specs.Counts.{seeks_difference}
 use Rattle.ht_tree.specs.Places.{IsSpot, set_at, spot_net}
 use Rattle.ht_tree.specs.Windows.{Start, one_frame, unknown, state_pair, back, SearchWindow, IsStart, pair_set_rules, first_latches, latches_at, cell_at}
 use Rattle.ht_tree.specs.WindowStatus.{status_from, status_at, difference_status, without_place}
-use Rattle.ht_tree.proofs.PlaceLaws.{taken_at}
 use Rattle.ht_tree.proofs.BeginLaws.{some_frame}
 use Rattle.ht_recompute.specs.declared.differences.Differences.{Differences}
 use Rattle.ht_recompute.specs.declared.fresh_start.FreshStart.{FreshStart}
@@ -105,7 +104,7 @@ module _ (w : SearchWindow) (path : List Assign3) (decisions : List (Option Tern
       by outputs latches (State j) l =
           let at : 0 + j ≡ j = omega arith in
           ap (λ (t : List (List Pair)). get_or t j []) latches
-          ∙ (taken_at (pair_set_rules w.fault) (cell_at w path 0) 0 w.circuit.dffs j [] l
+          ∙ (taken_get (pair_set_rules w.fault) (cell_at w path 0) 0 w.circuit.dffs j [] l
           ∙ ap (λ (n : ℕ). (pair_set_rules w.fault).data_pin n (cell_at w path 0 (spot_net w.circuit (State j)))) at)
       by outputs latches Cube l = refl
 

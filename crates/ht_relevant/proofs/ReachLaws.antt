@@ -15,13 +15,13 @@ use Rattle.ht_net.specs.Netlist.{Netlist, first_gate_net, net_count, gate_at, ar
 use Rattle.ht_net.specs.Frame.{Rules, pin_values, gate_output, net_value_over, net_value_within, net_value, next_state}
 use Rattle.ht_net.specs.Faults.{forced, is_stem, is_pin, is_data_pin}
 use Rattle.ht_net.proofs.FrameLaws.{le_or_lt, driven_input, driven_latch, driven_gate}
+use Rattle.ht_net.proofs.ValueLaws.{taken_get}
 use Rattle.ht_tree.specs.declared.token.Assign3.{Assign3}
 use Rattle.ht_tree.specs.declared.window.Spot.TheVariants.{State}
 use Rattle.ht_tree.specs.Decisions.{decided_value, latch_pairs}
 use Rattle.ht_tree.specs.Places.{set_at}
 use Rattle.ht_tree.specs.Windows.{Start, one_frame, unknown, state_pair, back, SearchWindow, IsWindow, cell_at, first_input, first_latch, frame_inputs, input_set, latches_at, pair_set_rules}
 use Rattle.ht_tree.specs.WindowStatus.{value_at}
-use Rattle.ht_tree.proofs.PlaceLaws.{taken_at}
 use Rattle.ht_relevant.specs.Alike.{IsAlike}
 use Rattle.ht_relevant.specs.Reached.{IsReach, begins_at, leads_to, may_begin_apart}
 use Rattle.ht_relevant.proofs.AlikeLaws.{AllAlike, same_alike, left_alike, one_alike, lifted_alike}
@@ -207,7 +207,7 @@ module _ (w : SearchWindow) (valid : IsWindow w) (is : ℕ → ℕ → Bool) (re
         let before : f < w.frames = omega (arith, fs) in
         let env = net_value c rules (frame_inputs w path f) (latches_at w path f) in
         let xs : c.inputs + j < net_count c = omega (arith, js) in
-        subst IsAlike (sym (taken_at rules env 0 c.dffs j blank js ∙ unforced stuck_set w.fault
+        subst IsAlike (sym (taken_get rules env 0 c.dffs j blank js ∙ unforced stuck_set w.fault
         (λ site. is_data_pin site (0 + j)) (env d)
         (λ k e. data_apart c k.site (0 + j) (omega (arith, js))
         (subst (λ (n : ℕ). leads_to c k.site (c.inputs + n) ≡ false) (omega arith)

@@ -11,6 +11,7 @@ use Rattle.ht_pairs.proofs.SetLaws.{is_member-from, is_member-true}
 use Rattle.ht_net.specs.Faults.{is_data_pin}
 use Rattle.ht_net.specs.Frame.{next_state}
 use Rattle.ht_net.specs.Netlist.{no_net}
+use Rattle.ht_net.proofs.ValueLaws.{taken_get}
 use Rattle.ht_tree.specs.Places.{set_at, spot_net}
 use Rattle.ht_tree.specs.WindowStatus.{is_definite}
 use Rattle.ht_tree.specs.Windows.{SearchWindow, cell_at, is_undetermined, latches_at, pair_set_rules}
@@ -18,7 +19,6 @@ use Rattle.ht_tree.specs.declared.token.Assign3.{Assign3}
 use Rattle.ht_tree.specs.declared.token.Status3.TheVariants.{Dead, Open, Sure}
 use Rattle.ht_tree.specs.declared.window.Spot.TheVariants.{State}
 use Rattle.ht_tree.proofs.MemberLaws.{member_range, none_passes}
-use Rattle.ht_tree.proofs.PlaceLaws.{taken_at}
 use Rattle.ht_tree.proofs.UndeterminedLaws.{forced_undetermined}
 use Rattle.ht_tree.proofs.BeginLaws.{undetermined_meets}
 use Rattle.ht_records.proofs.ListLaws.{found_member, range_member}
@@ -31,7 +31,7 @@ unfolding latches_at next_state
 latch_after w path f j inside =
     let at : 0 + j ≡ j = omega arith in
     let r = pair_set_rules w.fault in
-    taken_at r (cell_at w path f) 0 w.circuit.dffs j (pair Unk Unk ∷ []) inside
+    taken_get r (cell_at w path f) 0 w.circuit.dffs j (pair Unk Unk ∷ []) inside
     ∙ ap (λ (k : ℕ). r.data_pin k (cell_at w path f (get_or w.circuit.dffs j no_net).0)) at
 
 -- the set of a latch after the last frame is that of its next state in this frame

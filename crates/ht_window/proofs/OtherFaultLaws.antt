@@ -11,9 +11,9 @@ use Rattle.ht_net.specs.Netlist.{Netlist, net_count, first_gate_net, gate_at, no
 use Rattle.ht_net.specs.Frame.{net_value, net_value_over, driver_value, gate_output, next_state}
 use Rattle.ht_net.specs.Faults.{forced}
 use Rattle.ht_net.proofs.FrameLaws.{le_or_lt, driven_input, driven_latch, driven_gate}
+use Rattle.ht_net.proofs.ValueLaws.{taken_get}
 use Rattle.ht_frame.specs.StuckPins.{is_at_gate, is_pin_of}
 use Rattle.ht_frame.proofs.PinLaws.{plain_pins}
-use Rattle.ht_tree.proofs.PlaceLaws.{taken_at}
 use Rattle.ht_tree.specs.declared.token.Assign3.{Assign3}
 use Rattle.ht_tree.specs.Decisions.{is_in, decided_value, latch_pairs, latch_values_left}
 use Rattle.ht_tree.specs.Windows.{SearchWindow, Start, one_frame, unknown, state_pair, back, IsWindow, first_latch, frame_inputs, pair_set_rules, latches_at}
@@ -91,12 +91,12 @@ module _ (w : SearchWindow) (path : List Assign3) (values : List (List Pair)) wh
       let e = env_at w values f in
       let at : 0 + j ≡ j = omega arith in
       let v = e (get_or c.dffs j no_net).0 in
-      taken_at (pair_set_rules w.fault) e 0 c.dffs j blank js
+      taken_get (pair_set_rules w.fault) e 0 c.dffs j blank js
       ∙ (ap (λ (k : ℕ). (pair_set_rules w.fault).data_pin k v) at
       ∙ (plain_data_pin c w.fault j v js free
       ∙ (sym (plain_data_pin c None j v js refl)
       ∙ (sym (ap (λ (k : ℕ). (pair_set_rules None).data_pin k v) at)
-      ∙ sym (taken_at (pair_set_rules None) e 0 c.dffs j blank js)))))
+      ∙ sym (taken_get (pair_set_rules None) e 0 c.dffs j blank js)))))
 
   -- a net that the fault doesn't reach first gets what it gets in the good machine
   unreached : (f x : ℕ) → begins_at w.circuit w.fault x ≡ false
