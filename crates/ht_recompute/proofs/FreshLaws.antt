@@ -14,10 +14,10 @@ use Rattle.ht_tree.specs.Windows.{Start, one_frame, unknown, state_pair, back, S
 use Rattle.ht_tree.specs.Walks.{Node}
 use Rattle.ht_tree.specs.Variables.{may_two}
 use Rattle.ht_tree.specs.Nodes.{start_at, window_at}
+use Rattle.ht_tree.proofs.MemberLaws.{listed_by}
 use Rattle.ht_recompute.specs.Written.{IsWritten}
 use Rattle.ht_recompute.specs.FreshStarts.{first_latch_by}
 use Rattle.ht_recompute.specs.FrameSetsOf.{FrameState, inputs_by, latches_after, outputs_of_frame}
-use Rattle.ht_recompute.proofs.DecisionLaws.{listed_by}
 
 -- a list by number whose items are equal
 pub map_same : {V : Type 0} → (f g : ℕ → V) (i n : ℕ) (d : V) → ((k : ℕ) → k < n → f (i + k) ≡ g (i + k))
