@@ -9,16 +9,15 @@ use Rattle.ht_tree.specs.declared.token.Assign3.{Assign3}
 use Rattle.ht_tree.specs.declared.token.Choice.{Choice}
 use Rattle.ht_tree.specs.declared.token.Status3.{Status3}
 use Rattle.ht_tree.specs.declared.token.Status3.TheVariants as status3
-use Rattle.ht_tree.specs.declared.window.Status.{Status}
-use Rattle.ht_tree.specs.declared.window.Status.TheVariants.{Dead, Sure, Open}
+use Rattle.ht_tree.specs.declared.window.Status.TheVariants.{Sure, Open}
 use Rattle.ht_tree.specs.declared.window.Spot.TheVariants.{State}
 use Rattle.ht_tree.specs.Walks.{decides}
 use Rattle.ht_tree.specs.Windows.{Start, one_frame, unknown, state_pair, back, SearchWindow, first_input, is_undetermined}
 use Rattle.ht_tree.specs.Places.{set_at, spot_net}
-use Rattle.ht_tree.specs.WindowStatus.{status_at, without_place}
+use Rattle.ht_tree.specs.WindowStatus.{status_at}
 use Rattle.ht_tree.specs.Variables.{DecidesAll, IsLegalChoice, is_latch, may_two, two_of_start}
 use Rattle.ht_tree.specs.WalkBack.{pick_of, walk_back}
-use Rattle.ht_tree.proofs.BeginLaws.{some_frame, spot_undetermined, undetermined_meets}
+use Rattle.ht_tree.proofs.BeginLaws.{some_frame, spot_undetermined, undetermined_meets, open_alone}
 use Rattle.ht_tree.proofs.DecidedLaws.{decides_value}
 use Rattle.ht_tree.proofs.FirstLaws.{FoundFirst, FoundPassing, find_first, find_passing}
 use Rattle.ht_tree.proofs.PickLaws.{net_has_choice, open_has_choice, none_legal}
@@ -50,11 +49,6 @@ each_fails test [] h = refl
 each_fails test (x ∷ xs) h =
     let parts = or_parts (test x) (list_any test xs) h in
     and_from (not (test x)) (list_all (λ x. not (test x)) xs) (ap not parts.0) (each_fails test xs parts.1)
-
-is_open : (s : Status) → without_place s ≡ status3.Open → s ≡ Open
-is_open Dead h = cc
-is_open (Sure frame place) h = cc
-is_open Open h = refl
 
 two_of_latch : (c : Netlist) (s : Start) (j : ℕ) → is_one_frame s ≡ true → j < length c.dffs
     → two_of_start c s (c.inputs + j) ≡ true
@@ -128,7 +122,7 @@ module _ (w : ClauseWindow) (path : List Assign3) (is : IsClauseWindow w) where
       → IsLegalChoice v path (choice_or other (sought_choice v path s))
   sought_legal difference known h other =
       subst (λ (s : Status3). IsLegalChoice v path (choice_or other (choice_if_open s (pick_of v path)))) (sym h)
-      (open_has_choice v path is.window (is_open (status_at v path) h))
+      (open_has_choice v path is.window (open_alone (status_at v path) h))
   sought_legal (breach literals) known h other =
       let o = breach_open v path literals h in
       let undetermined : Literal → Bool = λ l. is_undetermined (set_at v path 0 (State l.dff)) in
