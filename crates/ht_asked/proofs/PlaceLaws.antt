@@ -4,6 +4,7 @@ use Rattle.std.specs.Prelude.{option_and_then}
 use Rattle.clap.specs.Walk.{Text}
 use Rattle.ht_asked.specs.Forms.{Part, option, positional, with_part}
 use Rattle.ht_asked.proofs.Uses.{Arguments, Use, add_use}
+use Rattle.ht_asked.proofs.Positional.{and_then_none}
 
 -- one more use, of the argument that is found, where there is one
 abbrev pub add_at : Option Text → Text → List Use → Option (List Use)
@@ -22,16 +23,12 @@ module _ (args : Arguments) where
   abbrev pub placed : ℕ → List Use → Option (List Part) → Option (List Use)
   placed k uses = option_and_then (place k uses)
 
-  none_then : (o : Option (List Use)) → option_and_then {U = List Use} (λ u. None) o ≡ None
-  none_then None = refl
-  none_then (Some u) = refl
-
   -- a positional is used before the parts after it, which go on at the next index
   pub placed_positional : (k : ℕ) (uses : List Use) (word : Text) (o : Option (List Part))
       → option_and_then (λ u. placed (k + 1) u o) (add_at (args.at k) word uses)
       ≡ placed k uses (with_part (positional word) o)
   unfolding place
-  placed_positional k uses word None = none_then (add_at (args.at k) word uses)
+  placed_positional k uses word None = and_then_none (add_at (args.at k) word uses)
   placed_positional k uses word (Some ps) = refl
 
   -- an option is used before the parts after it, which go on at the same index
@@ -39,5 +36,5 @@ module _ (args : Arguments) where
       → option_and_then (λ u. placed k u o) (add_at (args.option name) value uses)
       ≡ placed k uses (with_part (option name value) o)
   unfolding place
-  placed_option k uses name value None = none_then (add_at (args.option name) value uses)
+  placed_option k uses name value None = and_then_none (add_at (args.option name) value uses)
   placed_option k uses name value (Some ps) = refl

@@ -19,13 +19,14 @@ use Rattle.ht_net.specs.Detection.{terns_of}
 use Rattle.ht_net.proofs.DepthLaws.{circuit_depth}
 use Rattle.ht_net.proofs.FrameLaws.{frame_settled, driven_latch, driven_gate}
 use Rattle.ht_net.proofs.FaultLaws.{forced_related}
+use Rattle.ht_net.proofs.ValueLaws.{taken_get}
 use Rattle.ht_cubes.specs.declared.rail.Rail.{Rail}
 use Rattle.ht_cubes.specs.declared.signed_var.SignedVar.{SignedVar}
 use Rattle.ht_cubes.specs.declared.signal.Signal.{Signal}
 use Rattle.ht_cubes.specs.Rails.{JointState, latches_of, stuck_line, Holds, Avoids, AgreesOutside, Encloses, IsKnownRail}
 use Rattle.ht_cubes.specs.Cubes.{next_joint}
 use Rattle.ht_cubes.specs.Formula.{complement, bit_number, rail_variable, rail_of, stuck_signal, driver_signal, signal_rules, net_signal, pin_signals, latch_signal, next_signal, either_clauses, input_clauses, latch_clauses, machine_clauses, is_doubled, both_clauses, frame_clauses, cube_clause, next_target, differs_target}
-use Rattle.ht_cubes.proofs.OutsideLaws.{driven_outside, taken_get}
+use Rattle.ht_cubes.proofs.OutsideLaws.{driven_outside}
 use Rattle.ht_cubes.proofs.MeaningLaws.{truth_of, IsTrueClause, AreTrueClauses, denied_fails}
 use Rattle.ht_cubes.proofs.GateLaws.{is_definitely, Tells, tells_stuck, either_true, gate_true, is_definite, definite_is}
 

@@ -8,18 +8,11 @@ use Rattle.ht_net.specs.declared.fault.Fault.{Fault}
 use Rattle.ht_net.specs.declared.fault.Site.{Site}
 use Rattle.ht_net.specs.declared.fault.Site.TheVariants.{Stem, DffPin, GatePin}
 use Rattle.ht_net.specs.Netlist.{Netlist, IsCircuit, first_gate_net, net_count, gate_at, arg_at, no_net}
-use Rattle.ht_net.specs.Frame.{Rules, pin_values, gate_output, driver_value, net_value_over, net_value_within, net_value, data_values, next_state}
+use Rattle.ht_net.specs.Frame.{pin_values, gate_output, driver_value, net_value_over, net_value_within, net_value, next_state}
 use Rattle.ht_net.specs.Faults.{forced, tern_rules, is_stem, is_pin, is_data_pin}
 use Rattle.ht_net.proofs.FrameLaws.{le_or_lt, driven_input, driven_latch, driven_gate}
+use Rattle.ht_net.proofs.ValueLaws.{taken_get}
 use Rattle.ht_cubes.specs.Rails.{first_changed, Encloses}
-
--- what flip-flop o takes
-pub taken_get : {V : Type 0} → (r : Rules V) (e : ℕ → V) (j : ℕ) (xs : List NetId) (o : ℕ) (d : V) → o < length xs
-    → get_or (data_values r e j xs) o d ≡ r.data_pin (j + o) (e (get_or xs o no_net).0)
-taken_get r e j [] o d h = absurd (omega arith)
-taken_get r e j (x ∷ xs) zero d h = ap (λ (n : ℕ). r.data_pin n (e x.0)) (let s : j ≡ j + 0 = omega arith in s)
-taken_get r e j (x ∷ xs) (suc o) d h = taken_get r e (j + 1) xs o d (omega arith)
-    ∙ ap (λ (n : ℕ). r.data_pin n (e (get_or xs o no_net).0)) (let s : j + 1 + o ≡ j + suc o = omega arith in s)
 
 -- the value of a line that isn't the stuck one
 not_stuck : {V : Type 0} → (stick : Bool → V → V) (fault : Fault) (here : Site → Bool) (v : V)

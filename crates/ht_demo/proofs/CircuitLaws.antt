@@ -4,6 +4,7 @@ use Rattle.std.proofs.Math.Nat.{div-le_of_le-mul}
 use Rattle.std.specs.List.{sum_by}
 use Rattle.std.proofs.lemmas.List.Elements.{All-get_or, All-from_get_or}
 use Rattle.std.proofs.lemmas.List.FromFn.{length-map-range_with_len, get_or-map-range_with_len}
+use Rattle.std.proofs.lemmas.List.Sums.{sum_by-le}
 use Rattle.rand_pcg.specs.Lcg.{Lcg}
 use Rattle.ht_tern.specs.Gate.{HasArity}
 use Rattle.ht_net.specs.Lists.{AllDiffer}
@@ -14,7 +15,7 @@ use Rattle.ht_random.specs.Words.{generator_of, next_word, after_word, after_wor
 use Rattle.ht_demo.specs.Counts.{max_demo_size, input_count, dff_count, first_gate, demo_name}
 use Rattle.ht_demo.specs.Draws.{kind_by_word, drawn_gate, drawn_gate_net, after_gates}
 use Rattle.ht_demo.specs.Demo.{output_draws, demo_netlist}
-use Rattle.ht_demo.proofs.RangeLaws.{sum_at_most, list_all_range}
+use Rattle.ht_demo.proofs.RangeLaws.{list_all_range}
 use Rattle.ht_demo.proofs.DrawLaws.{IsBelow, arguments_are_below, arguments_count, count_is_arity, at_most_two, gate_is_below, outputs_differ, outputs_are_below}
 use Rattle.ht_demo.proofs.NameLaws.{one_net_per_name, demo_name_is_name}
 
@@ -100,7 +101,7 @@ module _ (size seed : ℕ) where
   }
 
   pins : sum_by (λ (gate : Gate). length gate.args) demo.gates ≤ length demo.gates * 2
-  pins = sum_at_most (λ (gate : Gate). length gate.args) 2 demo.gates
+  pins = sum_by-le (λ (gate : Gate). length gate.args) 2 demo.gates
       (All-from_get_or (λ (gate : Gate). length gate.args ≤ 2) demo.gates no_gate few_arguments)
 
   module _ (some : 1 ≤ size) (few : size ≤ max_demo_size) where

@@ -1,10 +1,8 @@
 -- Lists over the numbers from a start on.
-use Rattle.std.proofs.Common.{◌≡◌, ℕ, zero, suc, ◌+◌, ◌*◌, ◌<◌, ◌≤◌, List, [], ◌∷◌, ◌++◌, Bool, true, ◌&&◌, length, get_or, map, refl, sym, ap, ◌∙◌, add-one, append-nil, arith}
-use Rattle.std.proofs.Math.Nat.{suc-mul}
-use Rattle.std.specs.List.{All, flat_map, sum_by, list_all, range_with_len}
-use Rattle.std.proofs.lemmas.List.Sums.{sum_by-cons}
+use Rattle.std.proofs.Common.{◌≡◌, ℕ, zero, suc, ◌+◌, ◌<◌, List, [], ◌∷◌, ◌++◌, Bool, true, ◌&&◌, get_or, map, refl, sym, ap, ◌∙◌, add-one, append-nil, arith}
+use Rattle.std.specs.List.{All, flat_map, list_all, range_with_len}
 use Rattle.std.proofs.lemmas.Grind.{flat_map-append}
-use Rattle.std.proofs.lemmas.List.Elements.{All-head, All-tail, All-map}
+use Rattle.std.proofs.lemmas.List.Elements.{All-map}
 
 -- a function of two arguments gives the same for the same two
 pub ap2 : {A B C : Type 0} {a a' : A} {b b' : B} (f : A → B → C) → a ≡ a' → b ≡ b' → f a b ≡ f a' b'
@@ -39,14 +37,6 @@ pub flat_map-map : {A B : Type 0} (f : B → List ℕ) (h : A → B) (xs : List 
 flat_map-map f h [] = refl
 flat_map-map f h (x ∷ xs) = ap (λ t. f (h x) ++ t) (flat_map-map f h xs)
 
--- two functions that agree at all members
-pub map_agree : {A B : Type 0} (f h : A → B) (P : A → Type 0) → ((x : A) → P x → f x ≡ h x)
-    → (xs : List A) → All P xs → map f xs ≡ map h xs
-map_agree f h P same [] all = refl
-map_agree f h P same (x ∷ xs) all =
-    ap (λ y. y ∷ map f xs) (same x (All-head P x xs all))
-    ∙ ap (λ l. h x ∷ l) (map_agree f h P same xs (All-tail P x xs all))
-
 -- what holds of all images
 pub All-map_always : {A B : Type 0} (P : B → Type 0) (f : A → B) → ((x : A) → P (f x))
     → (xs : List A) → All P (map f xs)
@@ -59,13 +49,3 @@ list_all_range p f a zero each = refl
 list_all_range p f a (suc n) each =
     ap (λ b. b && list_all p (map f (range_with_len (a + 1) n))) (each a (omega arith))
     ∙ ap (λ b. true && b) (list_all_range p f (a + 1) n (λ k below. each k (omega arith)))
-
--- weights that are each at most a number add up to at most their count times that number
-pub sum_at_most : {A : Type 0} (weight : A → ℕ) (most : ℕ) (xs : List A) → All (λ x. weight x ≤ most) xs
-    → sum_by weight xs ≤ length xs * most
-sum_at_most weight most [] all = omega arith
-sum_at_most weight most (x ∷ xs) all =
-    let rest = sum_at_most weight most xs (All-tail (λ y. weight y ≤ most) x xs all) in
-    let this = All-head (λ y. weight y ≤ most) x xs all in
-    let total = sum_by-cons weight x xs in
-    rw suc-mul (omega arith)

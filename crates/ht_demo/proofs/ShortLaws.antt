@@ -6,6 +6,7 @@ use Rattle.std.proofs.lemmas.Grind.{common_steps}
 use Rattle.std.proofs.lemmas.List.Elements.{All-head, All-tail, All-map, All-weaker}
 use Rattle.std.proofs.lemmas.List.Concat.{length-flat_map}
 use Rattle.std.proofs.lemmas.List.FromFn.{length-range_with_len, get_or-range_with_len}
+use Rattle.std.proofs.lemmas.List.Sums.{sum_by-le}
 use Rattle.ht_tern.specs.declared.gate.Kind.{Kind}
 use Rattle.ht_net.specs.Named.{Name}
 use Rattle.ht_statement.specs.Statement.{input_line, output_line, dff_line, gate_line}
@@ -17,7 +18,6 @@ use Rattle.ht_demo.specs.Counts.{max_demo_size, input_count, dff_count, first_ga
 use Rattle.ht_demo.specs.Draws.{kind_by_word, drawn_gate_net, after_gates}
 use Rattle.ht_demo.specs.Demo.{output_draws}
 use Rattle.ht_demo.specs.DemoText.{demo_name_of, demo_input_line, demo_output_line, drawn_dff_line, drawn_gate_line, demo_input_lines, demo_output_lines, demo_dff_lines, demo_gate_lines}
-use Rattle.ht_demo.proofs.RangeLaws.{sum_at_most}
 use Rattle.ht_demo.proofs.KindLaws.{by_kind}
 use Rattle.ht_demo.proofs.DrawLaws.{IsBelow, arguments_are_below, arguments_count, at_most_two, gate_is_below, outputs_are_below, outputs_at_most}
 use Rattle.ht_demo.proofs.NameLaws.{demo_name_is_name}
@@ -66,7 +66,7 @@ gate_line_is_short out kind args short few all =
 lines_are_short : {A : Type 0} (line : A → List ℕ) (xs : List A) → All (λ x. length (line x) ≤ 100) xs
     → length (flat_map line xs) ≤ length xs * 100
 lines_are_short line xs all =
-    rw (length-flat_map line xs) (sum_at_most (λ x. length (line x)) 100 xs all)
+    rw (length-flat_map line xs) (sum_by-le (λ x. length (line x)) 100 xs all)
 
 over_range : (line : ℕ → List ℕ) (n : ℕ) → ((k : ℕ) → k < n → length (line k) ≤ 100)
     → length (flat_map line (range_with_len 0 n)) ≤ n * 100

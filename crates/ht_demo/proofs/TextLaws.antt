@@ -12,12 +12,13 @@ use Rattle.ht_statement.specs.StatementText.{statement_line}
 use Rattle.ht_bench.specs.Normal.{statement_lines, dff_statement, gate_statement, normal_text}
 use Rattle.ht_bench.proofs.NamedPartLaws.{no_named_dff, gate_named, named_dffs_count, named_gates_count, get_or-named_dffs, get_or-named_gates}
 use Rattle.ht_net.proofs.NameCycleLaws.{no_named_gate}
+use Rattle.ht_net.proofs.PlaceLaws.{map_agree}
 use Rattle.ht_random.specs.Words.{generator_of, next_word, after_word, after_words}
 use Rattle.ht_demo.specs.Counts.{input_count, dff_count, first_gate, demo_name}
 use Rattle.ht_demo.specs.Draws.{kind_by_word, drawn_gate_net}
 use Rattle.ht_demo.specs.Demo.{output_draws}
 use Rattle.ht_demo.specs.DemoText.{demo_name_of, demo_input_lines, demo_output_lines, demo_dff_lines, demo_gate_lines}
-use Rattle.ht_demo.proofs.RangeLaws.{ap2, flat_map-map, map_agree}
+use Rattle.ht_demo.proofs.RangeLaws.{ap2, flat_map-map}
 use Rattle.ht_demo.proofs.DrawLaws.{IsBelow, arguments_are_below, gate_is_below, outputs_are_below}
 use Rattle.ht_demo.proofs.CircuitLaws.{demo, before_gate, gate_drawn, gates_count, dffs_count, first_is, gate_is, dff_is, name_is}
 
@@ -56,7 +57,7 @@ module _ (size seed : ℕ) (some : 1 ≤ size) where
   output_part =
       let outputs = (demo size seed).outputs in
       ap (λ names. statement_lines (map output_line names))
-      (map_agree (name_of (demo size seed)) (demo_name_of size) (IsBelow (first_gate size + size)) same_name outputs
+      (map_agree (IsBelow (first_gate size + size)) (name_of (demo size seed)) (demo_name_of size) same_name outputs
       (outputs_are_below size (after_words (dff_count size) (before_gate size seed size)) output_draws some))
       ∙ flat_map-map statement_line output_line (map (demo_name_of size) outputs)
       ∙ flat_map-map (λ (name : Name). statement_line (output_line name)) (demo_name_of size) outputs
@@ -101,7 +102,7 @@ module _ (size seed : ℕ) (some : 1 ≤ size) where
       → map (name_of (demo size seed)) (gate_drawn size seed k).args
       ≡ map (demo_name_of size) (gate_drawn size seed k).args
   same_arguments k below =
-      map_agree (name_of (demo size seed)) (demo_name_of size) (IsBelow (first_gate size + k))
+      map_agree (IsBelow (first_gate size + k)) (name_of (demo size seed)) (demo_name_of size)
       (λ net earlier. same_name net (omega arith)) (gate_drawn size seed k).args
       (arguments_are_below (first_gate size + k) (kind_by_word (next_word (before_gate size seed k)))
       (after_word (before_gate size seed k)) (omega arith))

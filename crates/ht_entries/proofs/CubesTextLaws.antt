@@ -37,9 +37,9 @@ by_bytes (x ∷ xs) e =
 
 -- ---- numbers
 
--- numbers that may stand in a text are the same if their decimal texts are
-pub numbers_same : (m n : ℕ) → IsNumber m → IsNumber n → decimal m ≡ decimal n → m ≡ n
-numbers_same m n h k e = decimal_injective m n (omega (arith, h.1)) (omega (arith, k.1)) e
+-- numbers up to the greatest in a text are the same if their decimal texts are
+pub numbers_same : (m n : ℕ) → m ≤ max_number → n ≤ max_number → decimal m ≡ decimal n → m ≡ n
+numbers_same m n h k e = decimal_injective m n (omega (arith, h)) (omega (arith, k)) e
 
 -- a number that may stand in a text has no space in its digits
 pub number_plain : (n : ℕ) → IsNumber n → All IsNoSpace (decimal n)
@@ -47,7 +47,7 @@ number_plain n h = number_has_no_space n h.1
 
 -- numbers, each after a space, are items: a text begins with no two of them
 pub numbers_are_items : AreItems (spaced decimal) IsNumber
-numbers_are_items = words_are_items decimal IsNumber number_plain numbers_same
+numbers_are_items = words_are_items decimal IsNumber number_plain (λ m n h k. numbers_same m n h.1 k.1)
 
 -- the first byte of digits is one of a digit
 digits_begin : (ds rest : List ℕ) → 0 < length ds → AllDigits 10 ds
@@ -76,8 +76,8 @@ minus_number m n h e = no_minus m [] (decimal n) h (append-nil (decimal m) ∙ e
 
 signs_same : (m n : ℕ) (v w : Bool) → IsNumber m → IsNumber n
     → signed_word (signed_of m v) ≡ signed_word (signed_of n w) → signed_of m v ≡ signed_of n w
-signs_same m n true true h k e = ap (λ x. signed_of x true) (numbers_same m n h k e)
-signs_same m n false false h k e = ap (λ x. signed_of x false) (numbers_same m n h k (ap rest_of e))
+signs_same m n true true h k e = ap (λ x. signed_of x true) (numbers_same m n h.1 k.1 e)
+signs_same m n false false h k e = ap (λ x. signed_of x false) (numbers_same m n h.1 k.1 (ap rest_of e))
 signs_same m n true false h k e = absurd (minus_number m n h.1 e)
 signs_same m n false true h k e = absurd (minus_number n m k.1 (sym e))
 

@@ -1,13 +1,13 @@
 -- The lines that begin an entry, and the others of a form's own: two with one text are one.
-use Rattle.std.proofs.Common.{arith, ap, sym, ◌∙◌}
-use Rattle.std.proofs.lemmas.Fmt.{decimal_injective}
+use Rattle.std.proofs.Common.{arith, ap, ◌∙◌}
 use Rattle.std.proofs.lemmas.Bool.{ne_eqb}
 use Rattle.std.proofs.lemmas.List.{append_cancel_left}
 use Rattle.std.proofs.lemmas.List.Elements.{All-head, All-tail}
-use Rattle.std.specs.Prelude.{◌≡◌, ◌≤◌, ℕ, List, [], ◌∷◌, ◌++◌, Bool, true, false, cond, eqb, refl, get_or, codes}
+use Rattle.std.specs.Prelude.{◌≡◌, ◌≤◌, ℕ, List, [], ◌∷◌, ◌++◌, cond, eqb, refl, get_or, codes}
 use Rattle.std.specs.List.{All}
 use Rattle.std.specs.Fmt.{decimal}
-use Rattle.ht_texts.specs.Tests.{bit_code, vector_text}
+use Rattle.ht_texts.specs.Tests.{vector_text}
+use Rattle.ht_texts.proofs.VectorLaws.{vector_text_injective}
 use Rattle.ht_entries.specs.declared.proof_line.ProofLine.TheVariants as line
 use Rattle.ht_entries.specs.declared.from_state.FromStateLine.{FromStateLine}
 use Rattle.ht_entries.specs.declared.from_state.FromStateLine.TheVariants as form
@@ -22,39 +22,11 @@ use Rattle.ht_entries.proofs.SpaceLaws.{IsNoSpace, parts_same, number_has_no_spa
 use Rattle.ht_entries.proofs.FromStateTextLaws.{first_text_same, clauses_same}
 use Rattle.ht_entries.proofs.BySetsTextLaws.{rows_same}
 use Rattle.ht_entries.proofs.CubeLineLaws.{cubes_same, steps_same}
+use Rattle.ht_entries.proofs.CubesTextLaws.{numbers_same}
 use Rattle.ht_entries.specs.ProofLines.{line_text, max_number}
 
 abbrev pub byte : List ℕ → ℕ → ℕ
 byte text i = get_or text i 0
-
--- numbers up to the greatest in a text are the same if their decimal texts are
-pub numbers_same : (m n : ℕ) → m ≤ max_number → n ≤ max_number → decimal m ≡ decimal n → m ≡ n
-numbers_same m n h i e = decimal_injective m n (omega (arith, h)) (omega (arith, i)) e
-
-no_48 : ◌≡◌ {A = ℕ} 48 49 → ⊥
-no_48 e = omega (arith, e)
-
--- bits with the same character are the same
-pub bits_same : (b c : Bool) → bit_code b ≡ bit_code c → b ≡ c
-bits_same false false e = refl
-bits_same true true e = refl
-bits_same false true e = absurd (no_48 e)
-bits_same true false e = absurd (no_48 (sym e))
-
-abbrev rest_of : List ℕ → List ℕ
-rest_of [] = []
-rest_of (x ∷ xs) = xs
-
-empty_is_not : (x : ℕ) (xs : List ℕ) → [] ≡ x ∷ xs → ⊥
-empty_is_not x xs e = cc
-
--- vectors with the same characters are the same
-pub codes_same : (v w : List Bool) → vector_text v ≡ vector_text w → v ≡ w
-codes_same [] [] e = refl
-codes_same [] (c ∷ w) e = absurd (empty_is_not (bit_code c) (vector_text w) e)
-codes_same (b ∷ v) [] e = absurd (empty_is_not (bit_code b) (vector_text v) (sym e))
-codes_same (b ∷ v) (c ∷ w) e = ap (λ x. x ∷ v) (bits_same b c (ap (λ t. byte t 0) e))
-    ∙ ap (λ x. c ∷ x) (codes_same v w (ap rest_of e))
 
 -- what stands after the first space of a text
 abbrev pub after_space : List ℕ → List ℕ
@@ -84,7 +56,7 @@ pub from_state_same : (x y : FromStateLine) → IsFromStateLine x → IsFromStat
     → line_text (line.FromState x) ≡ line_text (line.FromState y) → x ≡ y
 from_state_same (form.Begins m s) (form.Begins n t) h k e =
     let same = first_text_same m n (vector_text s) (vector_text t) (h.0) (k.0) e in
-    ap (λ x. form.Begins x s) same.numbers ∙ ap (λ x. form.Begins n x) (codes_same s t same.states)
+    ap (λ x. form.Begins x s) same.numbers ∙ ap (λ x. form.Begins n x) (vector_text_injective s t same.states)
 from_state_same (form.Begins m s) (form.Clause first second) h k e = absurd (omega (arith, ap (λ t. byte t 0) e))
 from_state_same (form.Clause first second) (form.Begins m s) h k e = absurd (omega (arith, ap (λ t. byte t 0) e))
 from_state_same (form.Clause a b) (form.Clause first second) h k e = clauses_same a first b second h k e

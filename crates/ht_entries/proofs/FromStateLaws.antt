@@ -2,7 +2,7 @@
 use Rattle.std.proofs.Common.{◌≡◌, ◌+◌, ◌&&◌, ltb, eqb, ℕ, Bool, true, false, List, [], ◌∷◌, ◌++◌, Option, Some, None, length, map, flat_map, append_assoc, refl, sym, ap, ◌∙◌, subst, arith}
 use Rattle.std.proofs.lemmas.Bool.{and_parts, eqb-true, ltb-true}
 use Rattle.std.proofs.lemmas.Option.{none-some, same_Some}
-use Rattle.std.proofs.lemmas.List.{append-nil, length-append}
+use Rattle.std.proofs.lemmas.List.{append-nil, length-append, map_push}
 use Rattle.std.proofs.lemmas.List.Concat.{flat_map-cons}
 use Rattle.std.proofs.lemmas.Grind.{flat_map-append}
 use Rattle.std.proofs.lemmas.List.Elements.{All-nil, All-cons, All-head, All-tail, All-push}
@@ -20,7 +20,7 @@ use Rattle.ht_entries.specs.ProofLines.{IsIndex, IsTokenText, IsProofLine}
 use Rattle.ht_entries.specs.PartWords.{walk_lines, IsWalkText, where_true, only_where, is_above}
 use Rattle.ht_entries.specs.FromState.{IsSecondText, clause_lines, from_state_lines, IsClauseText, IsFromStateText, new_clause, add_clause_token, is_in_clauses, has_clause, with_clauses, grow_before_walk, grow_window_walk, grow_from_state_by, grow_from_state}
 use Rattle.ht_entries.proofs.RisesLaws.{rises_add}
-use Rattle.ht_entries.proofs.GrowLaws.{where_is, mapped_is, grown_end, map_one, walk_end}
+use Rattle.ht_entries.proofs.GrowLaws.{where_is, mapped_is, grown_end, walk_end}
 
 -- a token more in the walk of the last clause
 abbrev with_token : Clause → Token → Clause
@@ -112,7 +112,7 @@ adds_token (c ∷ []) t more h i e =
           (All-nil IsClauseText);
       size = refl;
       lines = append-nil (clause_lines (with_token c t))
-          ∙ ap (λ x. line.FromState (form.Clause c.first c.second) ∷ x) (map_one line.Token c.tokens t)
+          ∙ ap (λ x. line.FromState (form.Clause c.first c.second) ∷ x) (map_push line.Token c.tokens t)
           ∙ ap (λ x. x ++ line.Token t ∷ []) (sym (append-nil (clause_lines c)));
     })
 adds_token (c ∷ d ∷ clauses) t more h i e =
@@ -178,7 +178,7 @@ z_grows p j q h no_walk i e =
       };
       more = λ n. walkless n made no_walk
           ∙ grown_end (clauses_front n p) (map line.Z (p.z ++ j ∷ [])) (map line.Z p.z) (line.Z j ∷ [])
-          (map_one line.Z p.z j)
+          (map_push line.Z p.z j)
           ∙ ap (λ x. x ++ line.Z j ∷ []) (sym (walkless n p no_walk));
     })
 

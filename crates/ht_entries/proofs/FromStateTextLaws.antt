@@ -4,6 +4,7 @@ use Rattle.std.specs.Prelude.{codes}
 use Rattle.std.specs.Fmt.{decimal}
 use Rattle.std.proofs.lemmas.List.{append-nil, append_cancel_left}
 use Rattle.ht_texts.specs.Tests.{bit_code, vector_text}
+use Rattle.ht_texts.proofs.VectorLaws.{bit_code_injective}
 use Rattle.ht_tree.specs.declared.clause.Literal.{Literal}
 use Rattle.ht_entries.specs.declared.from_state.FromStateLine.TheVariants as form
 use Rattle.ht_entries.specs.ProofLines.{IsNumber, IsIndex}
@@ -20,15 +21,6 @@ first_of (x ∷ xs) = x
 
 no_text : (x : ℕ) (xs : List ℕ) → [] ≡ x ∷ xs → ⊥
 no_text x xs e = cc
-
-no_48 : ◌≡◌ {A = ℕ} 48 49 → ⊥
-no_48 e = omega (arith, e)
-
-bits_same : (b c : Bool) → bit_code b ≡ bit_code c → b ≡ c
-bits_same false false e = refl
-bits_same true true e = refl
-bits_same false true e = absurd (no_48 e)
-bits_same true false e = absurd (no_48 (sym e))
 
 -- ---- literals
 
@@ -50,7 +42,7 @@ literal_front_same l m rest more h k e =
     let same = number_front_same (l.dff + 1) (m.dff + 1) (bit_code l.value ∷ rest) (bit_code m.value ∷ more)
     (omega (arith, h)) (omega (arith, k)) (sym (literal_then l rest) ∙ e ∙ literal_then m more) in
     let dffs : l.dff ≡ m.dff = omega (arith, same.numbers) in
-    let values = bits_same l.value m.value (ap first_of same.rests) in
+    let values = bit_code_injective l.value m.value (ap first_of same.rests) in
     record {
       literals = ap (λ dff. literal_of dff l.value) dffs ∙ ap (λ value. literal_of m.dff value) values;
       rests = ap rest_of same.rests;

@@ -4,14 +4,13 @@ use Rattle.std.specs.Prelude.{IfSome}
 use Rattle.std.specs.List.{filter}
 use Rattle.std.proofs.lemmas.Bool.{cases_Bool, cond-true, cond-false, true≢false}
 use Rattle.std.proofs.lemmas.List.{append-nil}
-use Rattle.std.proofs.lemmas.List.Elements.{filter_agree}
 use Rattle.std.proofs.Math.ListN.{drop_of_length-le}
 use Rattle.ht_tern.specs.declared.tern.Tern.{Tern}
 use Rattle.ht_texts.specs.Tests.{tern_code}
 use Rattle.ht_texts.proofs.VectorLaws.{tern_code_injective}
 use Rattle.ht_pairs.specs.Pairs.{Pair, pair, all_pairs, IsMember, is_member, set_of}
 use Rattle.ht_pairs.specs.Included.{joined_set}
-use Rattle.ht_pairs.proofs.SetLaws.{agree, is_member-true, is_member-from, set_of_holds, member_left, member_right, member_either}
+use Rattle.ht_pairs.proofs.SetLaws.{agree, is_member-true, is_member-from, set_of_holds, member_left, member_right, member_either, set_of-same}
 use Rattle.ht_entries.specs.BySets.{pairs_text, pairs_of, IsSetText}
 use Rattle.ht_entries.specs.ParsedLines.{IsParsed}
 
@@ -147,14 +146,8 @@ few_within set (p ∷ left) (inr w) = omega (arith, ap length (w.1), few_within 
 pub at_most_nine : (set : List Pair) → set ≡ set_of set → length set ≤ 9
 at_most_nine set e = few_within set all_pairs (is_within set e)
 
-set_of_alike : (ps qs : List Pair) → ((p : Pair) → IsMember p ps ↔ IsMember p qs) → set_of ps ≡ set_of qs
-unfolding set_of
-set_of_alike ps qs h = filter_agree (λ p. is_member p ps) (λ p. is_member p qs)
-    (λ p. agree (is_member p ps) (is_member p qs) (λ e. is_member-from p qs ((h p).0 (is_member-true p ps e)))
-    (λ e. is_member-from p ps ((h p).1 (is_member-true p qs e)))) all_pairs
-
 set_of_again : (ps : List Pair) → set_of ps ≡ set_of (set_of ps)
-set_of_again ps = set_of_alike ps (set_of ps) (λ p. let h = set_of_holds ps p in (h.1, h.0))
+set_of_again ps = set_of-same ps (set_of ps) (λ p. let h = set_of_holds ps p in (h.1, h.0))
 
 -- ---- a text read pair by pair
 
@@ -227,7 +220,8 @@ joined_holds set taken p h q = (
   ]),
 )
 
-some_of_member : (p : Pair) (set : List Pair) → IsMember p set → 0 < length set
+-- a set with a member has one or more
+pub some_of_member : (p : Pair) (set : List Pair) → IsMember p set → 0 < length set
 some_of_member p [] h = absurd h
 some_of_member p (q ∷ set) h = omega arith
 
@@ -284,7 +278,7 @@ pub set_is_read : (text : List ℕ) (set : List Pair) → ReadsPairs text [] (So
 set_is_read text set h =
     let order : h.taken ≡ set_of h.taken =
     in_order h.taken (subst (λ s. IsWithin s all_pairs) (append-nil h.taken) (h.within [] refl)) in
-    let same : set ≡ h.taken = h.kept.in_order ∙ set_of_alike set h.taken h.members ∙ sym order in
+    let same : set ≡ h.taken = h.kept.in_order ∙ set_of-same set h.taken h.members ∙ sym order in
     h.parts ∙ append-nil (pairs_text h.taken) ∙ ap pairs_text (sym same)
 
 -- ---- a set written pair by pair

@@ -1,6 +1,6 @@
 -- The fault list by number: the stems' faults first, and each fault once.
-use Rattle.std.proofs.Common.{◌≡◌, ◌<◌, ◌≤◌, ◌+◌, ◌*◌, ◌/◌, ◌%◌, ℕ, suc, zero, List, ◌∷◌, ◌++◌, Bool, true, false, length, get_or, map, refl, sym, ◌∙◌, ap, arith, inl, inr, length-append}
-use Rattle.std.specs.List.{filter, range_with_len}
+use Rattle.std.proofs.Common.{◌≡◌, ◌<◌, ◌≤◌, ◌+◌, ◌*◌, ◌/◌, ◌%◌, ℕ, List, ◌++◌, Bool, true, false, length, get_or, refl, sym, ◌∙◌, ap, arith, inl, inr, length-append}
+use Rattle.std.specs.List.{filter}
 use Rattle.std.proofs.lemmas.Bool.{cases_lt}
 use Rattle.std.proofs.lemmas.List.{get_or_append_left}
 use Rattle.std.proofs.lemmas.List.Elements.{filter-append}
@@ -13,6 +13,7 @@ use Rattle.ht_faults.specs.Sites.{data_pins_of, gate_pins_of, is_site, sites_of,
 use Rattle.ht_faults.specs.FaultList.{no_fault}
 use Rattle.ht_faults.proofs.ListLaws as by_site
 use Rattle.ht_faults.proofs.DistinctLaws.{faults_differ}
+use Rattle.ht_faults.proofs.SiteLaws.{stems_kept}
 use Rattle.ht_faults.specs.Classes.{fault_at}
 use Rattle.ht_faults.specs.Leaders.{stem_number}
 
@@ -26,11 +27,6 @@ listed_once c i j inside there same = elim (cases_lt i j) [
     | inr k ↦ omega arith
   ]
 ]
-
-stems_kept : (c : Netlist) (a n : ℕ) → filter (is_site c) (map (λ x. Stem (record { 0 = x })) (range_with_len a n))
-    ≡ map (λ x. Stem (record { 0 = x })) (range_with_len a n)
-stems_kept c a zero = refl
-stems_kept c a (suc n) = ap (λ (l : List Site). Stem (record { 0 = a }) ∷ l) (stems_kept c (a + 1) n)
 
 sites_begin : (c : Netlist) → sites_of c ≡ stems_of c ++ filter (is_site c) (data_pins_of c ++ gate_pins_of c)
 sites_begin c =

@@ -9,11 +9,11 @@ use Rattle.ht_net.specs.Netlist.{Netlist, first_gate_net, net_count, gate_at, ar
 use Rattle.ht_net.specs.Frame.{Rules, pin_values, net_value_over, net_value, frame_outputs, next_state}
 use Rattle.ht_net.specs.Faults.{forced}
 use Rattle.ht_net.proofs.Depth.{IsDepth}
-use Rattle.ht_net.proofs.FrameLaws.{IsSettled, frame_settled, settled_is_frame, value_same, pins_length}
+use Rattle.ht_net.proofs.FrameLaws.{IsSettled, frame_settled, settled_is_frame, value_same, pins_length, pins_get}
 use Rattle.ht_net.proofs.ValueLaws.{seen_same, taken_same}
 use Rattle.ht_faults.specs.Table.{equivalent_output}
 use Rattle.ht_faults.proofs.LoadLaws.{IsReadBy}
-use Rattle.ht_faults.proofs.LineLaws.{stuck, good, stem_site, pins_get, stem_stuck, stem_free, good_gate, pin_stuck, pin_gate, pin_free}
+use Rattle.ht_faults.proofs.LineLaws.{stuck, good, stem_site, stem_stuck, stem_free, good_gate, pin_stuck, pin_gate, pin_free}
 
 -- A domain where the table of equivalent faults holds of every gate.
 pub record HasTable {V : Type 0} (blank : V) (gate : Kind → List V → V) (at : Bool → V) : Type 0 where

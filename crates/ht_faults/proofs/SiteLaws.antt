@@ -32,7 +32,8 @@ one_left p f old before n is fails =
     ∙ (ap (λ (b : Bool). filter p (map f (range_with_len 0 n)) ++ cond b (f n ∷ []) []) (sym fails)
     ∙ sym (filter_of_map_range_with_len_more p f 0 n n (omega arith))))
 
-range_more : (n : ℕ) → range_with_len 0 (n + 1) ≡ range_with_len 0 n ++ n ∷ []
+-- of the numbers below n one more
+pub range_more : (n : ℕ) → range_with_len 0 (n + 1) ≡ range_with_len 0 n ++ n ∷ []
 range_more n =
     sym (map-id (range_with_len 0 (n + 1))) ∙ (map-range_with_len_more (λ (x : ℕ). x) 0 n n (omega arith)
     ∙ ap (λ (l : List ℕ). l ++ n ∷ []) (map-id (range_with_len 0 n)))
@@ -58,10 +59,11 @@ gate_more c old before after g is added =
     ∙ ap (λ (l : List Site). old ++ l)
     (sym (filter-append p so_far (pins_of_gate c g)) ∙ ap (filter p) (sym (pins_more c g)))))
 
-all_stems : (c : Netlist) (a n : ℕ) → filter (is_site c) (map (λ x. Stem (record { 0 = x })) (range_with_len a n))
+-- each stem is a site
+pub stems_kept : (c : Netlist) (a n : ℕ) → filter (is_site c) (map (λ x. Stem (record { 0 = x })) (range_with_len a n))
     ≡ map (λ x. Stem (record { 0 = x })) (range_with_len a n)
-all_stems c a zero = refl
-all_stems c a (suc n) = ap (λ (l : List Site). Stem (record { 0 = a }) ∷ l) (all_stems c (a + 1) n)
+stems_kept c a zero = refl
+stems_kept c a (suc n) = ap (λ (l : List Site). Stem (record { 0 = a }) ∷ l) (stems_kept c (a + 1) n)
 
 -- Stems, data pins and gate pins are all.
 pub sites_are : (c : Netlist) (stems data_pins gate_pins : List Site) → stems ≡ stems_of c
@@ -71,7 +73,7 @@ pub sites_are : (c : Netlist) (stems data_pins gate_pins : List Site) → stems 
 sites_are c stems data_pins gate_pins s d g =
     let p : Site → Bool = is_site c in
     g ∙ (ap (λ (l : List Site). l ++ filter p (gate_pins_of c))
-    (d ∙ ap (λ (l : List Site). l ++ filter p (data_pins_of c)) (s ∙ sym (all_stems c 0 (net_count c))))
+    (d ∙ ap (λ (l : List Site). l ++ filter p (data_pins_of c)) (s ∙ sym (stems_kept c 0 (net_count c))))
     ∙ (append_assoc (filter p (stems_of c)) (filter p (data_pins_of c)) (filter p (gate_pins_of c))
     ∙ (ap (λ (l : List Site). filter p (stems_of c) ++ l) (sym (filter-append p (data_pins_of c) (gate_pins_of c)))
     ∙ sym (filter-append p (stems_of c) (data_pins_of c ++ gate_pins_of c)))))

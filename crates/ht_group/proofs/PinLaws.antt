@@ -1,7 +1,7 @@
 -- Pins of a gate, lane by lane.
 use Rattle.std.specs.Int.{bit_at, bit_not, w64, trailing_zeros}
 use Rattle.std.specs.List.{slice_get}
-use Rattle.std.proofs.Common.{◌≡◌, ◌≢◌, ◌<◌, ◌≤◌, ◌^◌, ◌*◌, ◌%◌, ◌+◌, ◌∙◌, ◌&&◌, ℕ, zero, suc, List, [], ◌∷◌, Bool, true, false, length, get_or, map, take, cond, eqb, ap, sym, refl, arith, Option, Some, None, inl, inr}
+use Rattle.std.proofs.Common.{◌≡◌, ◌≢◌, ◌<◌, ◌≤◌, ◌^◌, ◌*◌, ◌%◌, ◌+◌, ◌∙◌, ◌&&◌, ℕ, List, [], ◌∷◌, Bool, true, false, length, get_or, map, take, cond, eqb, ap, sym, refl, arith, Option, Some, None, inl, inr}
 use Rattle.std.proofs.lemmas.Bool.Decides.{eqb_tells}
 use Rattle.std.proofs.lemmas.Bool.{eqb-true}
 use Rattle.std.proofs.lemmas.Nat.{and_le_l}
@@ -18,9 +18,9 @@ use Rattle.ht_net.specs.declared.fault.Site.{Site}
 use Rattle.ht_net.specs.declared.fault.Site.TheVariants.{Stem, DffPin, GatePin}
 use Rattle.ht_net.specs.declared.fault.Fault.{Fault}
 use Rattle.ht_net.specs.Netlist.{no_net}
-use Rattle.ht_net.specs.Frame.{Rules, pin_values, values_at}
+use Rattle.ht_net.specs.Frame.{pin_values, values_at}
 use Rattle.ht_net.specs.Faults.{forced, tern_rules, is_pin}
-use Rattle.ht_net.proofs.FrameLaws.{pins_length}
+use Rattle.ht_net.proofs.FrameLaws.{pins_length, pins_get}
 use Rattle.ht_frame.specs.StuckPins.{is_at_gate, is_pin_of}
 use Rattle.ht_frame.proofs.PinLaws.{plain_pin}
 use Rattle.ht_items.specs.Bits.{with_bit}
@@ -175,15 +175,6 @@ rest_left faults g rest k small left n below is = elim (eqb_tells n k) [
   | inr p ↦ left n below (sym (ap (λ b. eqb b 1) (bit_at_clear_other w64 rest k small n below p.1)) ∙ is)
 ]
 
--- What stands in the pins is what the machine of a lane has there.
-pin_get : {V : Type 0} → (r : Rules V) (g : ℕ) (e : ℕ → V) (n : ℕ) (args : List NetId) (i : ℕ) (d : V) → i < length args
-    → get_or (pin_values r g e n args) i d ≡ r.pin g (n + i) (e (get_or args i no_net).0)
-pin_get r g e n [] i d h = absurd (omega arith)
-pin_get r g e n (a ∷ args) zero d h = ap (λ m. r.pin g m (e a.0)) (omega arith)
-pin_get r g e n (a ∷ args) (suc i) d h =
-    let same : n + 1 + i ≡ n + suc i = omega arith in
-    pin_get r g e (n + 1) args i d (omega arith) ∙ ap (λ m. r.pin g m (e (get_or args i no_net).0)) same
-
 -- pins that have in each lane what its machine has there are, in a lane, the values of the gate's pins
 pub stuck_pins : (faults : List Fault) (k g : ℕ) (words : List Lanes) (args : List NetId) (old pins : List Lanes)
     → k < 64 → length args ≤ 255 → length pins ≡ 256
@@ -209,4 +200,4 @@ stuck_pins faults k g words args old pins below few room read stuck =
     ∙ (ap ((rules_at faults k).pin g i)
     (read i k within)
     ∙ (ap (λ m. (rules_at faults k).pin g m (env (get_or args i no_net).0)) (sym start)
-    ∙ sym (pin_get (rules_at faults k) g env 0 args i Unk within)))))))
+    ∙ sym (pins_get (rules_at faults k) g env 0 args i Unk within)))))))

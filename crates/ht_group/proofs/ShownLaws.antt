@@ -1,26 +1,17 @@
 -- What an output shows and what a latch is after a frame, from the values of nets.
-use Rattle.std.proofs.Common.{◌≡◌, ◌<◌, ◌+◌, ◌∙◌, ℕ, zero, suc, List, [], ◌∷◌, length, get_or, ap, sym, refl, arith, None}
+use Rattle.std.proofs.Common.{◌≡◌, ◌<◌, ◌+◌, ◌∙◌, ℕ, List, [], length, get_or, ap, sym, refl, arith, None}
 use Rattle.ht_tern.specs.declared.tern.Tern.{Tern}
 use Rattle.ht_tern.specs.declared.tern.Tern.TheVariants.{Unk}
-use Rattle.ht_net.specs.declared.net.NetId.{NetId}
 use Rattle.ht_net.specs.Netlist.{Netlist, no_net}
-use Rattle.ht_net.specs.Frame.{Rules, net_value, frame_outputs, next_state, data_values}
+use Rattle.ht_net.specs.Frame.{Rules, net_value, frame_outputs, next_state}
 use Rattle.ht_net.specs.Faults.{forced, tern_rules}
-use Rattle.ht_net.proofs.ValueLaws.{seen_get}
+use Rattle.ht_net.proofs.ValueLaws.{seen_get, taken_get}
 
 -- an output shows in a frame the value of its net
 pub shown_at : (c : Netlist) (r : Rules Tern) (vector latches : List Tern) (o : ℕ) → o < length c.outputs
     → net_value c r vector latches (get_or c.outputs o no_net).0 ≡ get_or (frame_outputs c r vector latches) o Unk
 unfolding frame_outputs
 shown_at c r vector latches o inside = sym (seen_get (net_value c r vector latches) c.outputs o Unk inside)
-
-taken_get : (r : Rules Tern) (env : ℕ → Tern) (j : ℕ) (xs : List NetId) (i : ℕ) → i < length xs
-    → get_or (data_values r env j xs) i Unk ≡ r.data_pin (j + i) (env (get_or xs i no_net).0)
-taken_get r env j [] i h = absurd (omega arith)
-taken_get r env j (x ∷ xs) zero h = let at : j ≡ j + 0 = omega arith in ap (λ (n : ℕ). r.data_pin n (env x.0)) at
-taken_get r env j (x ∷ xs) (suc i) h =
-    let at : j + 1 + i ≡ j + suc i = omega arith in
-    taken_get r env (j + 1) xs i (omega arith) ∙ ap (λ (n : ℕ). r.data_pin n (env (get_or xs i no_net).0)) at
 
 -- a flip-flop takes at the end of a frame what its data pin makes of the value of the net there
 pub next_at : (c : Netlist) (r : Rules Tern) (vector latches : List Tern) (j : ℕ) → j < length c.dffs
@@ -31,7 +22,7 @@ next_at c r vector latches j inside =
     let start : j ≡ 0 + j = omega arith in
     let env = net_value c r vector latches in
     ap (λ (n : ℕ). r.data_pin n (env (get_or c.dffs j no_net).0)) start
-    ∙ sym (taken_get r env 0 c.dffs j inside)
+    ∙ sym (taken_get r env 0 c.dffs j Unk inside)
 
 -- the good machine's data pins change nothing
 pub good_data_pin : (j : ℕ) (v : Tern) → v ≡ (tern_rules None).data_pin j v

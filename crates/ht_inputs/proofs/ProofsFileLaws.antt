@@ -18,9 +18,9 @@ use Rattle.ht_entries.specs.declared.limits.TheConstants.{MAX_PROOF_LINE_BYTES}
 use Rattle.ht_entries.specs.ReaderStands.{ProofStands}
 use Rattle.ht_entries.specs.ProofReading.{AreProofLines, IsMalformedAfter, IsProofFront, ProofReading, ProofReadsTo, before_first, after_first, within_entry, after_last, closed_of, lines_taken}
 use Rattle.ht_entries.specs.MalformedProofs.{IsWrongProofLine}
-use Rattle.ht_entries.proofs.FrontLaws.{reading_is_front}
 use Rattle.ht_entries.proofs.LineLengthLaws.{front_is_short}
 use Rattle.ht_entries.proofs.MalformedLaws.{one_place}
+use Rattle.ht_entries.proofs.ReadLaws.{read_is_front}
 use Rattle.ht_valid.specs.declared.trouble.Trouble.TheVariants.{Proofs, Fault}
 use Rattle.ht_valid.specs.ValidFiles.{IsBacking, IsJustified}
 use Rattle.ht_valid.specs.FirstTrouble.{EndsWrongEntry, IsEvidence, IsEvidenceTrouble, IsFaultTrouble, IsFirstFault, IsFirstProofLine, IsMissing, IsProofTrouble, IsTroubleAt}
@@ -37,9 +37,6 @@ use Rattle.ht_inputs.proofs.ReadingLaws.{read_so}
 use Rattle.ht_inputs.proofs.FirstTroubleLaws.{IsWrongAt, at_line, first_after, front_is, grown_to, next_is, shorter}
 
 -- ---- what a judge stands for is fine
-
-read_is_front : (lines : List (List ℕ)) (at : ProofReading) → ProofReadsTo lines at → IsProofFront lines
-read_is_front lines at read = subst IsProofFront (sym read.lines_are) (reading_is_front at read.readable)
 
 -- the last of the entries that are whole
 last_is : (IsSo : Numbered → Type 0) (before closed : List Numbered) (ended : Numbered) → closed ≡ before ++ ended ∷ []

@@ -10,7 +10,7 @@ use Rattle.ht_tree.specs.declared.token.Status3.{Status3}
 use Rattle.ht_tree.specs.declared.token.Status3.TheVariants as status3
 use Rattle.ht_tree.specs.Walks.{Node, Fits, decides, path_of}
 use Rattle.ht_tree.specs.Searches.{deciding_token, guide_of}
-use Rattle.ht_tree.specs.Windows.{Start, one_frame, unknown, state_pair, back, SearchWindow, IsWindow}
+use Rattle.ht_tree.specs.Windows.{one_frame, SearchWindow, IsWindow}
 use Rattle.ht_tree.specs.Variables.{IsLegalChoice, may_two, may_three}
 use Rattle.ht_tree.specs.Counts.{seeks_difference}
 use Rattle.ht_tree.proofs.DifferenceLaws.{window_stays}
@@ -25,17 +25,11 @@ use Rattle.ht_tree.specs.Clauses.{literals_of_each, path_breaks, path_meets, sec
 use Rattle.ht_tree.specs.ClauseWindows.{ClauseWindow, IsClauseWindow, IsSought, is_one_frame, open_if_sure, status_under}
 use Rattle.ht_tree.specs.ClauseSearches.{guide_under, pick_under}
 use Rattle.ht_records.proofs.ChoiceLaws.{open_legal}
+use Rattle.ht_records.proofs.CountLaws.{one_frame_seeks}
 use Rattle.ht_invariant.specs.declared.sought.Sought.{Sought}
 use Rattle.ht_invariant.specs.declared.sought.Sought.TheVariants.{Difference, Breach}
 use Rattle.ht_invariant.specs.Trials.{clause_window, knows_each, knows_sought, sought_of}
 use Rattle.ht_invariant.proofs.KnownLaws.{known_all, known_each}
-
--- the start of a one-frame window is one from which a difference is looked for
-pub seeks_one : (s : Start) → is_one_frame s ≡ true → seeks_difference s ≡ true
-seeks_one (one_frame z) h = h
-seeks_one unknown h = cc
-seeks_one (state_pair good faulty) h = cc
-seeks_one (back cube limit) h = cc
 
 sought_known : (c : Netlist) (sought : Sought) → knows_sought c sought ≡ true → IsSought c (sought_of sought)
 sought_known c Difference h = tt
@@ -53,7 +47,7 @@ module _ (w : SearchWindow) (sought : Sought) (clauses : List Clause) (ds : List
   path = window_path [] ds
 
   seeks : seeks_difference w.start ≡ true
-  seeks = seeks_one w.start one
+  seeks = one_frame_seeks w.start one
 
   -- the status of the decisions under clauses is the status that the guide gives their node
   pub status_here : status_under cw ds ≡ (guide_under cw).judge.status here

@@ -9,6 +9,7 @@ use Rattle.ht_tern.specs.Gate.{AllRelated}
 use Rattle.ht_pairs.specs.Pairs.{Pair, pair, is_member}
 use Rattle.ht_net.specs.Frame.{data_values}
 use Rattle.ht_net.specs.Netlist.{no_net}
+use Rattle.ht_net.proofs.ValueLaws.{taken_get}
 use Rattle.ht_tree.specs.declared.token.Assign3.{Assign3}
 use Rattle.ht_tree.specs.declared.token.Status3.TheVariants as status3
 use Rattle.ht_tree.specs.declared.window.Spot.TheVariants.{State, Cube}
@@ -16,7 +17,6 @@ use Rattle.ht_tree.specs.declared.window.Status.TheVariants.{Dead, Sure, Open}
 use Rattle.ht_tree.specs.Windows.{SearchWindow, pair_set_rules, cell_at, is_undetermined}
 use Rattle.ht_tree.specs.Places.{set_at}
 use Rattle.ht_tree.specs.WindowStatus.{is_definite, value_at, cube_latches, may_meet, must_meet, cube_status, without_place}
-use Rattle.ht_tree.proofs.PlaceLaws.{taken_at}
 use Rattle.ht_recompute.specs.WantedLatches.{WantedLatch, wanted_in, matches_in, may_be, must_be, status_by_matches}
 
 -- a latch by number, and what is wanted of it
@@ -113,7 +113,7 @@ module _ (w : SearchWindow) (path : List Assign3) (cube : List Tern) where
       let set : (k : ℕ) → k < length cube → get_or sets k [] ≡ set_at w path 0 (State (0 + k)) =
       λ k l. let at : k ≡ 0 + k = omega arith in
       ap (λ (t : List (List Pair)). get_or t k []) is
-      ∙ (taken_at r (cell_at w path 0) 0 w.circuit.dffs k [] (omega (arith, l, long))
+      ∙ (taken_get r (cell_at w path 0) 0 w.circuit.dffs k [] (omega (arith, l, long))
       ∙ (λ i. r.data_pin (0 + k) (cell_at w path 0 (get_or w.circuit.dffs (at i) no_net).0))) in
       let each = wanted_by_number (value_at cube) (λ j. set_at w path 0 (State j)) 0 cube sets
       (omega (arith, long, count)) value set in

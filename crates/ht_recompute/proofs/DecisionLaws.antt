@@ -1,9 +1,7 @@
 -- What a path has decided, written down variable by variable.
-use Rattle.std.proofs.Common.{◌≡◌, ◌<◌, ◌≤◌, ◌+◌, ℕ, List, [], ◌∷◌, ◌++◌, map, cond, eqb, false, Bool, Option, Some, length, get_or, set, refl, sym, ◌∙◌, ap, inl, inr, arith, subst}
-use Rattle.std.specs.List.{range_with_len}
+use Rattle.std.proofs.Common.{◌≡◌, ◌<◌, ◌≤◌, ◌+◌, ℕ, List, [], ◌∷◌, ◌++◌, cond, eqb, false, Bool, Option, Some, length, set, sym, ◌∙◌, ap, inl, inr, arith, subst}
 use Rattle.std.proofs.lemmas.Bool.Decides.{eqb_tells}
-use Rattle.std.proofs.lemmas.List.{ext_get_or, length-set}
-use Rattle.std.proofs.lemmas.List.FromFn.{length-map-range_with_len, get_or-map-range_with_len}
+use Rattle.std.proofs.lemmas.List.{length-set}
 use Rattle.ht_tern.specs.declared.tern.Tern.{Tern}
 use Rattle.ht_tern.specs.declared.tern.Tern.TheVariants.{Zero}
 use Rattle.ht_tree.specs.declared.token.Assign3.{Assign3}
@@ -33,10 +31,3 @@ still_written old new path d out is h =
     subst (λ (values : List (Option Tern)). IsWritten values (path ++ d ∷ [])) (sym is)
     (λ var below. h var below ∙ sym (decided_more path d var
     ∙ ap (λ (b : Bool). cond b (Some d.value) (decided_value path var)) (other var below)))
-
--- a list by number, read item by item
-pub listed_by : {V : Type 0} → (f : ℕ → V) (i n : ℕ) (xs : List V) (d : V) → length xs ≡ n
-    → ((k : ℕ) → k < n → get_or xs k d ≡ f (i + k)) → xs ≡ map f (range_with_len i n)
-listed_by f i n xs d e h =
-    ext_get_or d xs (map f (range_with_len i n)) (e ∙ sym (length-map-range_with_len f i n))
-    (λ k l. h k (omega arith) ∙ sym (get_or-map-range_with_len f i n k (i + k) d (omega arith) refl))

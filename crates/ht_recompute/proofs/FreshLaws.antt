@@ -11,13 +11,10 @@ use Rattle.ht_net.specs.Frame.{values_at, data_values, frame_outputs, next_state
 use Rattle.ht_tree.specs.declared.token.Assign3.{Assign3}
 use Rattle.ht_tree.specs.Decisions.{is_in, latch_values_left, latch_pairs}
 use Rattle.ht_tree.specs.Windows.{Start, one_frame, unknown, state_pair, back, SearchWindow, pair_set_rules, input_set, frame_inputs, first_latch, first_latches, latches_at, cell_at}
-use Rattle.ht_tree.specs.Walks.{Node}
-use Rattle.ht_tree.specs.Variables.{may_two}
-use Rattle.ht_tree.specs.Nodes.{start_at, window_at}
+use Rattle.ht_tree.proofs.MemberLaws.{listed_by}
 use Rattle.ht_recompute.specs.Written.{IsWritten}
 use Rattle.ht_recompute.specs.FreshStarts.{first_latch_by}
 use Rattle.ht_recompute.specs.FrameSetsOf.{FrameState, inputs_by, latches_after, outputs_of_frame}
-use Rattle.ht_recompute.proofs.DecisionLaws.{listed_by}
 
 -- a list by number whose items are equal
 pub map_same : {V : Type 0} → (f g : ℕ → V) (i n : ℕ) (d : V) → ((k : ℕ) → k < n → f (i + k) ≡ g (i + k))
@@ -110,13 +107,3 @@ pub next_latches : (w : SearchWindow) (path : List Assign3) → latches_at w pat
     ≡ data_values (pair_set_rules w.fault) (cell_at w path 0) 0 w.circuit.dffs
 unfolding latches_at next_state
 next_latches w path = refl
-
--- what `Two` may decide is the same at each node
-pub two_at : (w : SearchWindow) (n : Node) (var : ℕ) → may_two (window_at w n) var ≡ may_two w var
-two_at w n var = by w.start
-  where
-    by : (s : Start) → may_two (record w { start = start_at w.circuit n s }) var ≡ may_two (record w { start = s }) var
-    by (one_frame z) = refl
-    by unknown = refl
-    by (state_pair good faulty) = refl
-    by (back cube limit) = refl

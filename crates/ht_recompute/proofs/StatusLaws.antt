@@ -4,10 +4,8 @@ use Rattle.std.specs.Prelude.{flat_map}
 use Rattle.std.specs.List.{range_with_len}
 use Rattle.ht_tern.specs.declared.tern.Tern.{Tern}
 use Rattle.ht_pairs.specs.Pairs.{Pair}
-use Rattle.ht_net.specs.declared.fault.Fault.{Fault}
-use Rattle.ht_net.specs.Netlist.{Netlist}
 use Rattle.ht_net.specs.Frame.{data_values, values_at}
-use Rattle.ht_net.proofs.ValueLaws.{seen_get}
+use Rattle.ht_net.proofs.ValueLaws.{seen_get, taken_get}
 use Rattle.ht_tree.specs.declared.token.Assign3.{Assign3}
 use Rattle.ht_tree.specs.declared.window.Spot.{Spot}
 use Rattle.ht_tree.specs.declared.window.Spot.TheVariants.{Output, State, Cube}
@@ -15,7 +13,7 @@ use Rattle.ht_tree.specs.Counts.{seeks_difference}
 use Rattle.ht_tree.specs.Places.{IsSpot, set_at, spot_net}
 use Rattle.ht_tree.specs.Windows.{Start, one_frame, unknown, state_pair, back, SearchWindow, IsStart, pair_set_rules, first_latches, latches_at, cell_at}
 use Rattle.ht_tree.specs.WindowStatus.{status_from, status_at, difference_status, without_place}
-use Rattle.ht_tree.proofs.PlaceLaws.{taken_at}
+use Rattle.ht_tree.proofs.BeginLaws.{some_frame}
 use Rattle.ht_recompute.specs.declared.differences.Differences.{Differences}
 use Rattle.ht_recompute.specs.declared.fresh_start.FreshStart.{FreshStart}
 use Rattle.ht_recompute.specs.declared.fresh_start.FreshStart.TheVariants.{OneFrame, Unknown, States, Back}
@@ -27,13 +25,6 @@ use Rattle.ht_recompute.proofs.DifferenceLaws.{differences_append}
 use Rattle.ht_recompute.proofs.FreshLaws.{map_same, first_are, latches_are, outputs_are, outputs_flat, next_latches}
 use Rattle.ht_recompute.proofs.FrameSetLaws.{ran_frame}
 use Rattle.ht_recompute.proofs.PlaceLaws.{shown_in, status_shown}
-
--- a window has a frame, whatever its start
-pub some_frames : (c : Netlist) (fault : Option Fault) (frames : ℕ) (s : Start) → IsStart c fault frames s → 0 < frames
-some_frames c fault frames (one_frame z) h = omega (arith, h)
-some_frames c fault frames unknown h = h
-some_frames c fault frames (state_pair good faulty) h = h.0
-some_frames c fault frames (back cube limit) h = let e = h.0 in omega (arith, e)
 
 seeking : (w : SearchWindow) (path : List Assign3) (s : Start) → seeks_difference s ≡ true
     → status_from w path s ≡ difference_status w path
@@ -50,7 +41,7 @@ module _ (w : SearchWindow) (path : List Assign3) (decisions : List (Option Tern
     (circuit : s.circuit ≡ w.circuit) (fault : s.fault ≡ w.fault)
     (latches : s.latches ≡ latches_by start decisions w.circuit) where
   some : 0 < w.frames
-  some = some_frames w.circuit w.fault w.frames (fresh_start start) fits
+  some = some_frame w.circuit w.fault w.frames (fresh_start start) fits
 
   first : s.latches ≡ first_latches w path
   first = latches ∙
@@ -113,7 +104,7 @@ module _ (w : SearchWindow) (path : List Assign3) (decisions : List (Option Tern
       by outputs latches (State j) l =
           let at : 0 + j ≡ j = omega arith in
           ap (λ (t : List (List Pair)). get_or t j []) latches
-          ∙ (taken_at (pair_set_rules w.fault) (cell_at w path 0) 0 w.circuit.dffs j [] l
+          ∙ (taken_get (pair_set_rules w.fault) (cell_at w path 0) 0 w.circuit.dffs j [] l
           ∙ ap (λ (n : ℕ). (pair_set_rules w.fault).data_pin n (cell_at w path 0 (spot_net w.circuit (State j)))) at)
       by outputs latches Cube l = refl
 

@@ -7,22 +7,20 @@ use Rattle.ht_tern.specs.declared.tern.Tern.{Tern}
 use Rattle.ht_net.specs.Netlist.{Netlist, first_gate_net}
 use Rattle.ht_tree.specs.declared.token.Assign3.{Assign3}
 use Rattle.ht_tree.specs.declared.token.Choice.{Choice}
-use Rattle.ht_tree.specs.declared.token.Choice.TheVariants.{Two, Three}
 use Rattle.ht_tree.specs.declared.token.Status3.{Status3}
 use Rattle.ht_tree.specs.declared.token.Status3.TheVariants as status3
-use Rattle.ht_tree.specs.declared.window.Status.{Status}
-use Rattle.ht_tree.specs.declared.window.Status.TheVariants.{Dead, Sure, Open}
+use Rattle.ht_tree.specs.declared.window.Status.TheVariants.{Sure, Open}
 use Rattle.ht_tree.specs.declared.window.Spot.TheVariants.{State}
 use Rattle.ht_tree.specs.Walks.{decides}
 use Rattle.ht_tree.specs.Windows.{Start, one_frame, unknown, state_pair, back, SearchWindow, first_input, is_undetermined}
 use Rattle.ht_tree.specs.Places.{set_at, spot_net}
-use Rattle.ht_tree.specs.WindowStatus.{status_at, without_place}
+use Rattle.ht_tree.specs.WindowStatus.{status_at}
 use Rattle.ht_tree.specs.Variables.{DecidesAll, IsLegalChoice, is_latch, may_two, two_of_start}
 use Rattle.ht_tree.specs.WalkBack.{pick_of, walk_back}
-use Rattle.ht_tree.proofs.BeginLaws.{some_frame, spot_undetermined, undetermined_meets}
+use Rattle.ht_tree.proofs.BeginLaws.{some_frame, spot_undetermined, undetermined_meets, open_alone}
 use Rattle.ht_tree.proofs.DecidedLaws.{decides_value}
 use Rattle.ht_tree.proofs.FirstLaws.{FoundFirst, FoundPassing, find_first, find_passing}
-use Rattle.ht_tree.proofs.PickLaws.{net_has_choice, open_has_choice}
+use Rattle.ht_tree.proofs.PickLaws.{net_has_choice, open_has_choice, none_legal}
 use Rattle.ht_tree.specs.declared.clause.Literal.{Literal}
 use Rattle.ht_tree.specs.Clauses.{AreKnown, is_decided_against, is_decided_to, latch_value, path_breaks, path_meets}
 use Rattle.ht_tree.specs.ClauseWindows.{ClauseWindow, IsClauseWindow, IsSought, Sought, breach, difference, is_one_frame, may_miss, must_miss, sought_status, status_under}
@@ -51,11 +49,6 @@ each_fails test [] h = refl
 each_fails test (x ∷ xs) h =
     let parts = or_parts (test x) (list_any test xs) h in
     and_from (not (test x)) (list_all (λ x. not (test x)) xs) (ap not parts.0) (each_fails test xs parts.1)
-
-is_open : (s : Status) → without_place s ≡ status3.Open → s ≡ Open
-is_open Dead h = cc
-is_open (Sure frame place) h = cc
-is_open Open h = refl
 
 two_of_latch : (c : Netlist) (s : Start) (j : ℕ) → is_one_frame s ≡ true → j < length c.dffs
     → two_of_start c s (c.inputs + j) ≡ true
@@ -129,7 +122,7 @@ module _ (w : ClauseWindow) (path : List Assign3) (is : IsClauseWindow w) where
       → IsLegalChoice v path (choice_or other (sought_choice v path s))
   sought_legal difference known h other =
       subst (λ (s : Status3). IsLegalChoice v path (choice_or other (choice_if_open s (pick_of v path)))) (sym h)
-      (open_has_choice v path is.window (is_open (status_at v path) h))
+      (open_has_choice v path is.window (open_alone (status_at v path) h))
   sought_legal (breach literals) known h other =
       let o = breach_open v path literals h in
       let undetermined : Literal → Bool = λ l. is_undetermined (set_at v path 0 (State l.dff)) in
@@ -164,12 +157,6 @@ module _ (w : ClauseWindow) (path : List Assign3) (is : IsClauseWindow w) where
         | inr sure ↦ subst (λ (o : Option Choice). IsLegalChoice v path (choice_or other o))
             (sym (sought_none w.sought sure.0)) (clause_legal o.unbroken sure.1)
       ]
-
--- no choice is legal where all variables are decided
-none_legal : (w : SearchWindow) (path : List Assign3) → DecidesAll w path → (choice : Choice)
-    → IsLegalChoice w path choice → ⊥
-none_legal w path all (Two var first) h = let no : true ≡ false = sym (all.two var h.0) ∙ h.1 in cc
-none_legal w path all (Three var) h = let no : true ≡ false = sym (all.three var h.0) ∙ h.1 in cc
 
 -- where a path decides all variables, the status under clauses isn't open
 pub decided_not_open : (w : ClauseWindow) (path : List Assign3) → IsClauseWindow w → DecidesAll w.window path

@@ -11,8 +11,8 @@ use Rattle.ht_tree.specs.ClauseSearches.{guide_under}
 use Rattle.ht_tree.proofs.CountLaws.{enough}
 use Rattle.ht_tree.proofs.DifferenceCountLaws.{undecided_measures_by}
 
--- a window of one frame has none under it, as a window that looks for a difference
-one_frame_seeks : (s : Start) → is_one_frame s ≡ true → seeks_difference s ≡ true
+-- the start of a one-frame window is one from which a difference is looked for
+pub one_frame_seeks : (s : Start) → is_one_frame s ≡ true → seeks_difference s ≡ true
 one_frame_seeks (one_frame z) h = h
 one_frame_seeks unknown h = cc
 one_frame_seeks (state_pair good faulty) h = cc

@@ -1,31 +1,15 @@
 -- Numbers that are found, nearest first.
-use Rattle.std.proofs.Common.{◌≡◌, ◌∙◌, ◌<◌, ◌≤◌, ◌+◌, ◌⊎◌, ℕ, List, [], ◌∷◌, ◌++◌, Bool, true, false, cond, length, get_or, set, replicate, refl, sym, ap, subst, inl, inr, arith, get_or-set_other, get_or-set_same}
-use Rattle.std.specs.Prelude.{ltb}
+use Rattle.std.proofs.Common.{◌≡◌, ◌∙◌, ◌<◌, ◌≤◌, ◌+◌, ◌⊎◌, ℕ, List, [], ◌∷◌, ◌++◌, Bool, cond, length, get_or, set, replicate, refl, sym, ap, subst, inl, inr, arith, get_or-set_other, get_or-set_same}
 use Rattle.std.specs.List.{Contains}
-use Rattle.std.proofs.lemmas.Bool.Decides.{eqb_tells, nat_tests}
+use Rattle.std.proofs.lemmas.Bool.Decides.{eqb_tells}
 use Rattle.std.proofs.lemmas.List.{get_or_past, get_or-replicate, length-set, length_push, length-replicate}
 use Rattle.std.proofs.lemmas.List.Elements.{Contains-push, Contains-append_left, Contains-push_cases}
 use Rattle.std.proofs.lemmas.List.Sums.{sum_by-set}
+use Rattle.std.proofs.lemmas.Bool.{lt-ltb, le-ltb}
 use Rattle.ht_net.specs.Netlist.{Netlist}
 use Rattle.ht_relevant.specs.declared.way.Way.{Way}
 use Rattle.ht_relevant.specs.Steps.{AreSpread}
 use Rattle.ht_relevant.specs.Distances.{DistanceState, AreDistances, AreFollowed, HasGrown, IsFollowed, IsLower, number_of, if_none}
-
--- a number that is less passes the test for it
-pub less_true : (a b : ℕ) → a < b → ltb a b ≡ true
-less_true a b h = grind (arith, nat_tests)
-
--- a number that passes the test for less is less
-pub true_less : (a b : ℕ) → ltb a b ≡ true → a < b
-true_less a b h = grind (arith, nat_tests)
-
--- a number that fails the test for less is at least the other
-pub false_least : (a b : ℕ) → ltb a b ≡ false → b ≤ a
-false_least a b h = grind (arith, nat_tests)
-
--- a number that is at least the other fails the test for less
-pub least_false : (a b : ℕ) → b ≤ a → ltb a b ≡ false
-least_false a b h = grind (arith, nat_tests)
 
 empty : {A : Type 0} (i : ℕ) → Contains [] i → A
 empty i h = let l = h.1 in absurd (omega (arith, l))
@@ -140,9 +124,9 @@ module _ (s : DistanceState) (x : ℕ) (l : x < length s.numbers) where
     left = (
         let sums = sum_by-set (if_none s.frames) s.numbers x s.distance s.frames l in
         let none : if_none s.frames (number_of s x) ≡ 1 =
-        ap (λ (b : Bool). cond b 0 1) (least_false (number_of s x) s.frames free) in
+        ap (λ (b : Bool). cond b 0 1) (le-ltb (number_of s x) s.frames free) in
         let some : if_none s.frames s.distance ≡ 0 =
-        ap (λ (b : Bool). cond b 0 1) (less_true s.distance s.frames inside) in
+        ap (λ (b : Bool). cond b 0 1) (lt-ltb s.distance s.frames inside) in
         let more = length_push s.here x in
         omega (arith, sums, none, some, more)
         );

@@ -1,5 +1,6 @@
 -- Numbers of frames stand for marks.
 use Rattle.std.proofs.Common.{◌≡◌, ◌∙◌, ◌<◌, ◌≤◌, ◌+◌, ◌⊎◌, ℕ, suc, List, Bool, true, false, Option, Some, length, get_or, refl, sym, ap, subst, inl, inr, arith}
+use Rattle.std.proofs.lemmas.Bool.{lt-ltb, ltb-true}
 use Rattle.std.specs.Prelude.{ltb}
 use Rattle.ht_net.specs.declared.fault.Fault.{Fault}
 use Rattle.ht_net.specs.Netlist.{Netlist, first_gate_net, net_count, arg_at, no_net}
@@ -11,7 +12,6 @@ use Rattle.ht_relevant.specs.Near.{RelevantState, has_come, matters}
 use Rattle.ht_relevant.specs.Reached.{IsReach, begins_at, leads_to, may_begin_apart}
 use Rattle.ht_relevant.specs.Relevant.{IsClosedBack, IsRelevant, counts_state}
 use Rattle.ht_relevant.specs.Steps.{AreSpread}
-use Rattle.ht_relevant.proofs.DistanceLaws.{less_true, true_less}
 use Rattle.ht_relevant.proofs.RelevantLaws.{relevant_found}
 
 -- the nets that are near enough, with all that their drivers read
@@ -19,15 +19,15 @@ pub near_closed : (c : Netlist) (frames : ℕ) (near : ℕ → ℕ) → AreSprea
     → IsClosedBack c frames (λ f x. ltb (f + near x) frames)
 near_closed c frames near h = record {
   gates = λ f g i fs gs l m.
-      let here = true_less (f + near (first_gate_net c + g)) frames m in
+      let here = ltb-true (f + near (first_gate_net c + g)) frames m in
       let less = h.within (first_gate_net c + g) (arg_at c g i)
       (record { gate = g; pin = i; known = gs; is_pin = l; argument = refl; output = refl }) (omega (arith, here)) in
-      less_true (f + near (arg_at c g i)) frames (omega (arith, here, less));
+      lt-ltb (f + near (arg_at c g i)) frames (omega (arith, here, less));
   dffs = λ f j fs js m.
-      let here = true_less (suc f + near (c.inputs + j)) frames m in
+      let here = ltb-true (suc f + near (c.inputs + j)) frames m in
       let less = h.on (c.inputs + j) (get_or c.dffs j no_net).0
       (record { dff = j; known = js; argument = refl; output = refl }) (omega (arith, here)) in
-      less_true (f + near (get_or c.dffs j no_net).0) frames (omega (arith, here, less));
+      lt-ltb (f + near (get_or c.dffs j no_net).0) frames (omega (arith, here, less));
 }
 
 -- the nets to which a difference may have come
@@ -36,20 +36,20 @@ pub away_reach : (w : SearchWindow) (away : ℕ → ℕ) → AreSpread w.circuit
     → ((j : ℕ) → j < length w.circuit.dffs → may_begin_apart w.start j ≡ true → away (w.circuit.inputs + j) ≤ 0)
     → IsReach w (has_come away)
 away_reach w away h line latches = record {
-  line = λ f x fs xs b. let zero = line x xs b in less_true (away x) (suc f) (omega (arith, zero));
+  line = λ f x fs xs b. let zero = line x xs b in lt-ltb (away x) (suc f) (omega (arith, zero));
   latches = λ j js b.
       let zero = latches j js b in
-      less_true (away (w.circuit.inputs + j)) 1 (omega (arith, zero));
+      lt-ltb (away (w.circuit.inputs + j)) 1 (omega (arith, zero));
   gates = λ f g i fs gs l m.
-      let here = true_less (away (arg_at w.circuit g i)) (suc f) m in
+      let here = ltb-true (away (arg_at w.circuit g i)) (suc f) m in
       let less = h.within (arg_at w.circuit g i) (first_gate_net w.circuit + g)
       (record { gate = g; pin = i; known = gs; is_pin = l; argument = refl; output = refl }) (omega (arith, here, fs)) in
-      less_true (away (first_gate_net w.circuit + g)) (suc f) (omega (arith, here, less));
+      lt-ltb (away (first_gate_net w.circuit + g)) (suc f) (omega (arith, here, less));
   dffs = λ f j fs js m.
-      let here = true_less (away (get_or w.circuit.dffs j no_net).0) (suc f) m in
+      let here = ltb-true (away (get_or w.circuit.dffs j no_net).0) (suc f) m in
       let less = h.on (get_or w.circuit.dffs j no_net).0 (w.circuit.inputs + j)
       (record { dff = j; known = js; argument = refl; output = refl }) (omega (arith, here, fs)) in
-      less_true (away (w.circuit.inputs + j)) (suc (suc f)) (omega (arith, here, less));
+      lt-ltb (away (w.circuit.inputs + j)) (suc (suc f)) (omega (arith, here, less));
 }
 
 -- the nets that are near to the places in reach
@@ -67,18 +67,18 @@ near_relevant w valid fault at some away reached r count spread outputs states =
     (subst (λ (n : ℕ). IsClosedBack w.circuit w.frames (λ f x. ltb (f + get_or r.near x r.frames) n)) (sym count)
     (near_closed w.circuit w.frames (λ x. get_or r.near x r.frames) spread))
     (λ f o fs os m.
-    let here = true_less (away (get_or w.circuit.outputs o no_net).0) (suc f) m in
+    let here = ltb-true (away (get_or w.circuit.outputs o no_net).0) (suc f) m in
     let zero = outputs o os (omega (arith, here, fs)) in
-    less_true (f + get_or r.near (get_or w.circuit.outputs o no_net).0 r.frames) r.frames
+    lt-ltb (f + get_or r.near (get_or w.circuit.outputs o no_net).0 r.frames) r.frames
     (omega (arith, zero, fs, count)))
     (λ j js counts shows.
     let zero = states j js counts (elim shows [
       | inl m ↦
-          let here = true_less (away (get_or w.circuit.dffs j no_net).0) 1 m in
+          let here = ltb-true (away (get_or w.circuit.dffs j no_net).0) 1 m in
           inl (omega (arith, here, some))
       | inr pin ↦ inr pin
     ]) in
-    less_true (0 + get_or r.near (get_or w.circuit.dffs j no_net).0 r.frames) r.frames
+    lt-ltb (0 + get_or r.near (get_or w.circuit.dffs j no_net).0 r.frames) r.frames
     (omega (arith, zero, some, count)))
 
 -- ---- what is found

@@ -7,9 +7,9 @@ use Rattle.ht_net.specs.Netlist.{first_gate_net, net_count, arg_at, no_net}
 use Rattle.ht_net.specs.Frame.{data_values, net_value_over, next_state}
 use Rattle.ht_net.proofs.DepthLaws.{circuit_depth}
 use Rattle.ht_net.proofs.FrameLaws.{frame_settled}
+use Rattle.ht_net.proofs.ValueLaws.{taken_get}
 use Rattle.ht_tree.specs.declared.token.Assign3.{Assign3}
 use Rattle.ht_tree.specs.Windows.{SearchWindow, IsWindow, cell_at, first_latches, frame_inputs, latches_at, pair_set_rules}
-use Rattle.ht_tree.proofs.PlaceLaws.{taken_at}
 use Rattle.ht_relevant.specs.Relevant.{IsClosedBack}
 use Rattle.ht_relevant.proofs.PartLaws.{over_alike, part_is_frame}
 
@@ -38,9 +38,9 @@ module _ (w : SearchWindow) (valid : IsWindow w) (path : List Assign3) (e : ℕ 
   latches_right (suc f) fs before j js h =
       let r = pair_set_rules w.fault in
       let d = (get_or w.circuit.dffs j no_net).0 in
-      taken_at r (e f) 0 w.circuit.dffs j blank js
+      taken_get r (e f) 0 w.circuit.dffs j blank js
       ∙ (ap (r.data_pin (0 + j)) (before f (omega arith) d (valid.circuit.data_known j js) (closed.dffs f j fs js h))
-      ∙ sym (taken_at r (cell_at w path f) 0 w.circuit.dffs j blank js))
+      ∙ sym (taken_get r (cell_at w path f) 0 w.circuit.dffs j blank js))
 
   -- where each net of the part holds what it gets, it holds its cell
   pub part_cells : ((f x : ℕ) → f < w.frames → x < net_count w.circuit → is f x ≡ true → e f x ≡ gets w path e f x)

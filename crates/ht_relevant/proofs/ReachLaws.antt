@@ -1,8 +1,7 @@
 -- At a net that isn't in reach of a fault the machines don't differ, whatever is decided.
-use Rattle.std.proofs.Common.{◌≡◌, ◌∙◌, ◌<◌, ◌+◌, ◌-◌, ℕ, suc, zero, List, [], ◌∷◌, Bool, true, false, not, ◌&&◌, cond, Option, Some, None, length, get_or, refl, sym, ap, subst, inl, inr, arith}
+use Rattle.std.proofs.Common.{◌≡◌, ◌∙◌, ◌<◌, ◌+◌, ◌-◌, ℕ, suc, zero, List, [], ◌∷◌, Bool, true, false, not, cond, Option, Some, None, length, get_or, refl, sym, ap, subst, inl, inr, arith}
 use Rattle.std.specs.Prelude.{eqb, ltb}
-use Rattle.std.proofs.lemmas.Bool.{false_from_ne_true, false≢true}
-use Rattle.std.proofs.lemmas.Bool.Decides.{nat_tests}
+use Rattle.std.proofs.lemmas.Bool.{false_from_ne_true, false≢true, lt-ltb, and_from, and_left, eq-eqb, eqb-true}
 use Rattle.std.proofs.lemmas.List.{get_or_past}
 use Rattle.std.proofs.lemmas.List.FromFn.{length-map-range_with_len, get_or-map-range_with_len}
 use Rattle.ht_tern.specs.declared.tern.Tern.TheVariants.{Unk}
@@ -16,13 +15,13 @@ use Rattle.ht_net.specs.Netlist.{Netlist, first_gate_net, net_count, gate_at, ar
 use Rattle.ht_net.specs.Frame.{Rules, pin_values, gate_output, net_value_over, net_value_within, net_value, next_state}
 use Rattle.ht_net.specs.Faults.{forced, is_stem, is_pin, is_data_pin}
 use Rattle.ht_net.proofs.FrameLaws.{le_or_lt, driven_input, driven_latch, driven_gate}
+use Rattle.ht_net.proofs.ValueLaws.{taken_get}
 use Rattle.ht_tree.specs.declared.token.Assign3.{Assign3}
 use Rattle.ht_tree.specs.declared.window.Spot.TheVariants.{State}
 use Rattle.ht_tree.specs.Decisions.{decided_value, latch_pairs}
 use Rattle.ht_tree.specs.Places.{set_at}
 use Rattle.ht_tree.specs.Windows.{Start, one_frame, unknown, state_pair, back, SearchWindow, IsWindow, cell_at, first_input, first_latch, frame_inputs, input_set, latches_at, pair_set_rules}
 use Rattle.ht_tree.specs.WindowStatus.{value_at}
-use Rattle.ht_tree.proofs.PlaceLaws.{taken_at}
 use Rattle.ht_relevant.specs.Alike.{IsAlike}
 use Rattle.ht_relevant.specs.Reached.{IsReach, begins_at, leads_to, may_begin_apart}
 use Rattle.ht_relevant.proofs.AlikeLaws.{AllAlike, same_alike, left_alike, one_alike, lifted_alike}
@@ -35,25 +34,9 @@ unfolding forced
 unforced stick None here v h = refl
 unforced stick (Some fault) here v h = ap (λ (b : Bool). cond b (stick fault.value v) v) (h fault refl)
 
-both_true : (a b : Bool) → a ≡ true → b ≡ true → (a && b) ≡ true
-both_true true b p q = q
-both_true false b p q = cc
-
-both_false : (a b : Bool) → a ≡ false → (a && b) ≡ false
-both_false false b p = refl
-both_false true b p = cc
-
-same_number : (a b : ℕ) → a ≡ b → eqb a b ≡ true
-same_number a b e = grind (arith, nat_tests)
-
-number_same : (a b : ℕ) → eqb a b ≡ true → a ≡ b
-number_same a b e = grind (arith, nat_tests)
-
-less_true : (a b : ℕ) → a < b → ltb a b ≡ true
-less_true a b h = grind (arith, nat_tests)
-
 module _ (c : Netlist) where
-  stem_apart : (site : Site) (x : ℕ) → leads_to c site x ≡ false → is_stem site x ≡ false
+  -- a net that a site doesn't lead to isn't its stem
+  pub stem_apart : (site : Site) (x : ℕ) → leads_to c site x ≡ false → is_stem site x ≡ false
   stem_apart (Stem y) x h = h
   stem_apart (DffPin j) x h = refl
   stem_apart (GatePin g i) x h = refl
@@ -61,19 +44,20 @@ module _ (c : Netlist) where
   pin_apart : (site : Site) (g i : ℕ) → leads_to c site (first_gate_net c + g) ≡ false → is_pin site g i ≡ false
   pin_apart (Stem y) g i h = refl
   pin_apart (DffPin j) g i h = refl
-  pin_apart (GatePin k j) g i h = both_false (eqb g k) (eqb i j) (false_from_ne_true (eqb g k) (λ e.
-      let same = number_same g k e in
-      false≢true (sym h ∙ same_number (first_gate_net c + g) (first_gate_net c + k)
+  pin_apart (GatePin k j) g i h = and_left (eqb g k) (eqb i j) (false_from_ne_true (eqb g k) (λ e.
+      let same = eqb-true g k e in
+      false≢true (sym h ∙ eq-eqb (first_gate_net c + g) (first_gate_net c + k)
       (ap (λ (n : ℕ). first_gate_net c + n) same))))
 
-  data_apart : (site : Site) (j : ℕ) → j < length c.dffs → leads_to c site (c.inputs + j) ≡ false
+  -- a flip-flop that a site doesn't lead to doesn't have its data pin
+  pub data_apart : (site : Site) (j : ℕ) → j < length c.dffs → leads_to c site (c.inputs + j) ≡ false
       → is_data_pin site j ≡ false
   data_apart (Stem y) j l h = refl
   data_apart (DffPin k) j l h = false_from_ne_true (eqb j k) (λ e.
-      let same = number_same j k e in
-      false≢true (sym h ∙ both_true (ltb k (length c.dffs)) (eqb (c.inputs + j) (c.inputs + k))
-      (less_true k (length c.dffs) (omega (arith, l, same)))
-      (same_number (c.inputs + j) (c.inputs + k) (ap (λ (n : ℕ). c.inputs + n) same))))
+      let same = eqb-true j k e in
+      false≢true (sym h ∙ and_from (ltb k (length c.dffs)) (eqb (c.inputs + j) (c.inputs + k))
+      (lt-ltb k (length c.dffs) (omega (arith, l, same)))
+      (eq-eqb (c.inputs + j) (c.inputs + k) (ap (λ (n : ℕ). c.inputs + n) same))))
   data_apart (GatePin g i) j l h = refl
 
   at_fault : (fault : Option Fault) (x : ℕ) → begins_at c fault x ≡ false → (f : Fault) → fault ≡ Some f
@@ -83,7 +67,8 @@ module _ (c : Netlist) where
 
 -- ---- a window
 
-unmarked : (a b : Bool) → (a ≡ true → b ≡ true) → b ≡ false → a ≡ false
+-- a test from which another follows fails where that one does
+pub unmarked : (a b : Bool) → (a ≡ true → b ≡ true) → b ≡ false → a ≡ false
 unmarked a b h e = false_from_ne_true a (λ k. false≢true (sym e ∙ h k))
 
 module _ (w : SearchWindow) (valid : IsWindow w) (is : ℕ → ℕ → Bool) (reach : IsReach w is) (path : List Assign3)
@@ -222,7 +207,7 @@ module _ (w : SearchWindow) (valid : IsWindow w) (is : ℕ → ℕ → Bool) (re
         let before : f < w.frames = omega (arith, fs) in
         let env = net_value c rules (frame_inputs w path f) (latches_at w path f) in
         let xs : c.inputs + j < net_count c = omega (arith, js) in
-        subst IsAlike (sym (taken_at rules env 0 c.dffs j blank js ∙ unforced stuck_set w.fault
+        subst IsAlike (sym (taken_get rules env 0 c.dffs j blank js ∙ unforced stuck_set w.fault
         (λ site. is_data_pin site (0 + j)) (env d)
         (λ k e. data_apart c k.site (0 + j) (omega (arith, js))
         (subst (λ (n : ℕ). leads_to c k.site (c.inputs + n) ≡ false) (omega arith)

@@ -1,16 +1,12 @@
 -- What is marked where a difference may show, and what is read there, is what matters.
-use Rattle.std.proofs.Common.{◌≡◌, ◌<◌, ◌⊎◌, ℕ, Bool, true, false, Some, length, get_or, sym, ◌∙◌, ap, inl, inr}
-use Rattle.std.proofs.lemmas.Bool.{false≢true, false_from_ne_true}
+use Rattle.std.proofs.Common.{◌≡◌, ◌<◌, ◌⊎◌, ℕ, Bool, true, Some, length, get_or, sym, ◌∙◌, ap, inl, inr}
 use Rattle.ht_net.specs.declared.fault.Fault.{Fault}
 use Rattle.ht_net.specs.Netlist.{no_net}
 use Rattle.ht_net.specs.Faults.{is_data_pin}
 use Rattle.ht_tree.specs.Windows.{SearchWindow, IsWindow}
 use Rattle.ht_relevant.specs.Reached.{IsReach}
 use Rattle.ht_relevant.specs.Relevant.{IsClosedBack, IsRelevant, counts_state}
-use Rattle.ht_relevant.proofs.ReachLaws.{cell_alike, state_alike}
-
-unmarked : (a b : Bool) → (a ≡ true → b ≡ true) → b ≡ false → a ≡ false
-unmarked a b h e = false_from_ne_true a (λ k. false≢true (sym e ∙ h k))
+use Rattle.ht_relevant.proofs.ReachLaws.{cell_alike, state_alike, unmarked}
 
 -- where each place in reach is marked, and all that is read there, they are those that matter
 pub relevant_found : (w : SearchWindow) (valid : IsWindow w) (fault : Fault) → w.fault ≡ Some fault → 0 < w.frames

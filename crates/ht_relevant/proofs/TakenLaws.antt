@@ -2,6 +2,7 @@
 use Rattle.std.proofs.Common.{◌≡◌, ◌∙◌, ◌<◌, ◌≤◌, ◌+◌, ◌-◌, ◌⊎◌, ℕ, [], Bool, cond, length, get_or, refl, ap, subst, inl, inr, arith}
 use Rattle.std.specs.List.{Contains}
 use Rattle.std.proofs.lemmas.List.{get_or_default}
+use Rattle.std.proofs.lemmas.Bool.{lt-ltb, le-ltb}
 use Rattle.ht_net.specs.Netlist.{gate_at, arg_at}
 use Rattle.ht_events.specs.Ranks.{AreRanked}
 use Rattle.ht_events.specs.Items.{ReadsNet, driven_net, frame_items}
@@ -9,13 +10,12 @@ use Rattle.ht_events.specs.FramePlans.{FramePlanState, IsOffsetTable, reader_off
 use Rattle.ht_relevant.specs.declared.way.Way.TheVariants.{Readers}
 use Rattle.ht_relevant.specs.Distances.{DistanceState, HasGrown, IsFollowed, number_of}
 use Rattle.ht_relevant.specs.Offsets.{IsTaken}
-use Rattle.ht_relevant.proofs.DistanceLaws.{less_true, least_false}
 
 module _ (p : FramePlanState) (ranked : AreRanked p.circuit (length p.circuit.dffs) p.order p.ranks) where
   -- the offset of a gate, and of a flip-flop
   pub gate_offset : (l : ℕ) → length p.circuit.dffs ≤ l → reader_offset p.circuit p.ranks l ≡ get_or p.ranks l 0
   gate_offset l high = ap (λ (b : Bool). cond b (length p.ranks + get_or p.ranks l 0) (get_or p.ranks l 0))
-      (least_false l (length p.circuit.dffs) high)
+      (le-ltb l (length p.circuit.dffs) high)
 
   -- the offset of a flip-flop is its rank after all items of a frame
   pub dff_offset : (l : ℕ) → l < length p.circuit.dffs
@@ -23,7 +23,7 @@ module _ (p : FramePlanState) (ranked : AreRanked p.circuit (length p.circuit.df
   dff_offset l low =
       let count = ranked.rank_count in
       ap (λ (b : Bool). cond b (length p.ranks + get_or p.ranks l 0) (get_or p.ranks l 0))
-      (less_true l (length p.circuit.dffs) low) ∙ ap (λ (n : ℕ). n + get_or p.ranks l 0) count
+      (lt-ltb l (length p.circuit.dffs) low) ∙ ap (λ (n : ℕ). n + get_or p.ranks l 0) count
 
   -- an item stands before the end of the frame after
   pub offset_small : (l : ℕ) → l < frame_items p.circuit

@@ -1,7 +1,7 @@
 -- The sets of latches after the last frame of a window: what a dead and a sure status say of them, and where the walk
 -- back begins.
 use Rattle.std.specs.List.{find, list_any}
-use Rattle.std.proofs.Common.{◌≡◌, ◌<◌, ◌+◌, ◌-◌, ℕ, suc, List, [], ◌∷◌, Bool, true, false, not, ◌&&◌, cond, Some, None, length, get_or, refl, sym, ◌∙◌, ap, inl, inr, arith, subst}
+use Rattle.std.proofs.Common.{◌≡◌, ◌<◌, ◌+◌, ◌-◌, ℕ, suc, List, [], ◌∷◌, Bool, true, false, cond, Some, None, length, get_or, refl, sym, ◌∙◌, ap, inl, inr, arith, subst}
 use Rattle.std.proofs.lemmas.Bool.{and_parts, both_ways, ltb-true, not_from_true, or_cases}
 use Rattle.std.proofs.lemmas.Bool.Decides.{nat_tests}
 use Rattle.ht_tern.specs.declared.tern.Tern.{Tern}
@@ -11,6 +11,7 @@ use Rattle.ht_pairs.proofs.SetLaws.{is_member-from, is_member-true}
 use Rattle.ht_net.specs.Faults.{is_data_pin}
 use Rattle.ht_net.specs.Frame.{next_state}
 use Rattle.ht_net.specs.Netlist.{no_net}
+use Rattle.ht_net.proofs.ValueLaws.{taken_get}
 use Rattle.ht_tree.specs.Places.{set_at, spot_net}
 use Rattle.ht_tree.specs.WindowStatus.{is_definite}
 use Rattle.ht_tree.specs.Windows.{SearchWindow, cell_at, is_undetermined, latches_at, pair_set_rules}
@@ -18,8 +19,8 @@ use Rattle.ht_tree.specs.declared.token.Assign3.{Assign3}
 use Rattle.ht_tree.specs.declared.token.Status3.TheVariants.{Dead, Open, Sure}
 use Rattle.ht_tree.specs.declared.window.Spot.TheVariants.{State}
 use Rattle.ht_tree.proofs.MemberLaws.{member_range, none_passes}
-use Rattle.ht_tree.proofs.PlaceLaws.{taken_at}
 use Rattle.ht_tree.proofs.UndeterminedLaws.{forced_undetermined}
+use Rattle.ht_tree.proofs.BeginLaws.{undetermined_meets}
 use Rattle.ht_records.proofs.ListLaws.{found_member, range_member}
 use Rattle.ht_sync.specs.SyncWindows.{flip_flops, last_set, may_be_unknown, must_be_unknown, sync_status}
 
@@ -30,7 +31,7 @@ unfolding latches_at next_state
 latch_after w path f j inside =
     let at : 0 + j ≡ j = omega arith in
     let r = pair_set_rules w.fault in
-    taken_at r (cell_at w path f) 0 w.circuit.dffs j (pair Unk Unk ∷ []) inside
+    taken_get r (cell_at w path f) 0 w.circuit.dffs j (pair Unk Unk ∷ []) inside
     ∙ ap (λ (k : ℕ). r.data_pin k (cell_at w path f (get_or w.circuit.dffs j no_net).0)) at
 
 -- the set of a latch after the last frame is that of its next state in this frame
@@ -113,11 +114,6 @@ none_finds test [] y none h = absurd h
 none_finds test (x ∷ xs) y none h =
     none_found test (test x) x y xs refl (λ e k. none_finds test xs y e k) none h
 
-undetermined_by : (may more : Bool) → (may && not more) ≡ false → may ≡ true → more ≡ true
-undetermined_by true true h k = refl
-undetermined_by true false h k = cc
-undetermined_by false more h k = cc
-
 module _ (w : SearchWindow) (path : List Assign3) where
   abbrev must : ℕ → Bool
   must j = must_be_unknown (last_set w path j)
@@ -164,7 +160,7 @@ module _ (w : SearchWindow) (path : List Assign3) where
       let some = some_passes may js e.1 in
       let j = some.member in
       both_ways (undetermined j) (none_finds undetermined js j none some.listed)
-      (undetermined_by (may j) (undetermined j) (none_passes must js j some.listed e.0) some.passes)
+      (undetermined_meets (may j) (undetermined j) (none_passes must js j some.listed e.0) some.passes)
 
   -- a latch found to be undetermined is the circuit's, and more than one pair is left to it
   pub found_latch : (j : ℕ) → find undetermined js ≡ Some j

@@ -6,7 +6,8 @@ use Rattle.ht_tern.specs.declared.tern.Tern.TheVariants.{Zero, One, Unk}
 use Rattle.ht_texts.specs.Tests.{bit_code, tern_code, vector_text}
 use Rattle.ht_texts.proofs.CodedLaws.{map_injective}
 
-bit_code_injective : (a b : Bool) → bit_code a ≡ bit_code b → a ≡ b
+-- bits with the same character are the same
+pub bit_code_injective : (a b : Bool) → bit_code a ≡ bit_code b → a ≡ b
 bit_code_injective false false e = refl
 bit_code_injective false true e = absurd (omega (arith, e))
 bit_code_injective true false e = absurd (omega (arith, e))

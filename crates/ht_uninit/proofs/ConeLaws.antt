@@ -3,6 +3,7 @@ use Rattle.std.specs.Prelude.{eqb}
 use Rattle.std.proofs.Common.{◌≡◌, ◌<◌, ◌≤◌, ◌+◌, ◌-◌, ℕ, suc, zero, List, [], ◌∷◌, Bool, true, false, cond, Some, None, length, get_or, refl, sym, ◌∙◌, ap, inl, inr, arith}
 use Rattle.std.proofs.lemmas.Bool.{and_parts, false≢true, false_from_ne_true}
 use Rattle.std.proofs.lemmas.Bool.Decides.{nat_tests}
+use Rattle.std.proofs.lemmas.List.{get_or_past}
 use Rattle.ht_tern.specs.declared.tern.Tern.{Tern}
 use Rattle.ht_tern.specs.declared.tern.Tern.TheVariants.{Unk}
 use Rattle.ht_tern.specs.Gate.{gate_value, tern_of}
@@ -15,7 +16,6 @@ use Rattle.ht_net.specs.Faults.{forced, is_data_pin, is_pin, is_stem, tern_rules
 use Rattle.ht_net.specs.Frame.{driver_value, gate_output, net_value, net_value_over, net_value_within, next_state, pin_values}
 use Rattle.ht_net.specs.Netlist.{Gate, Netlist, arg_at, first_gate_net, gate_at, no_gate, no_net}
 use Rattle.ht_net.proofs.FrameLaws.{driven_gate, driven_input, driven_latch, le_or_lt}
-use Rattle.ht_records.proofs.ListLaws.{get_end}
 use Rattle.ht_records.proofs.RunStateLaws.{nth, state_in}
 use Rattle.ht_records.proofs.ShownLaws.{next_at}
 use Rattle.ht_faults.specs.Sites.{data_net}
@@ -91,7 +91,7 @@ module _ (c : Netlist) (fault : Fault) (s : ℕ → Bool) (closed : IsForwardClo
             no_argument : (k : ℕ) → k < length (gate_at c g).args → length c.gates ≤ g → ⊥
             no_argument k l beyond =
                 let none : length (gate_at c g).args ≡ 0 =
-                ap (λ (n : Gate). length n.args) (get_end c.gates g no_gate beyond) in
+                ap (λ (n : Gate). length n.args) (get_or_past c.gates g no_gate beyond) in
                 omega (arith, l, none)
 
     value_alike : (e f : ℕ → Tern) (x : ℕ) → s x ≡ false → ((y : ℕ) → s y ≡ false → e y ≡ f y)

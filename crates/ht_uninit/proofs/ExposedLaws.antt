@@ -3,14 +3,13 @@ use Rattle.std.specs.Prelude.{eqb, ◌==◌, ◌↔◌}
 use Rattle.std.proofs.Common.{◌≡◌, ◌⊎◌, ◌<◌, ◌≤◌, ◌+◌, ◌-◌, ℕ, suc, zero, List, [], ◌∷◌, ◌++◌, Bool, true, false, not, ◌||◌, cond, length, get_or, set, refl, sym, ◌∙◌, ap, inl, inr, arith, subst, get_or-set_other, get_or-set_same}
 use Rattle.std.proofs.lemmas.Bool.{false_from_ne_true, false≢true, not_from_false, or_cases, or_left, or_right, true_from_ne_false}
 use Rattle.std.proofs.lemmas.Bool.Decides.{eqb_tells, nat_tests}
-use Rattle.std.proofs.lemmas.List.{length-set, length_push, set-get_or}
+use Rattle.std.proofs.lemmas.List.{length-set, length_push, set-get_or, get_or_past}
 use Rattle.std.proofs.lemmas.List.Folds.{list_any-append}
 use Rattle.std.proofs.lemmas.List.Sums.{sum_by-set}
 use Rattle.ht_net.specs.declared.fault.Fault.{Fault}
 use Rattle.ht_net.specs.declared.net.NetId.{NetId}
 use Rattle.ht_net.specs.Netlist.{Netlist, arg_at, first_gate_net, gate_at, net_count}
 use Rattle.ht_net.proofs.FrameLaws.{le_or_lt}
-use Rattle.ht_records.proofs.ListLaws.{get_end}
 use Rattle.ht_uninit.specs.declared.record.Out3.{Out3}
 use Rattle.ht_uninit.specs.Rounds.{is_mute, mutes_of}
 use Rattle.ht_faults.specs.Sites.{data_net}
@@ -67,7 +66,7 @@ module _ (c : Netlist) (mute : ℕ → Bool) (outputs : ℕ) (marks : List Bool)
   marked_known x is = elim (le_or_lt (net_count c) x) [
     | inl beyond ↦
         let long = h.long in
-        absurd (false≢true (sym (get_end marks x false (omega (arith, long, beyond))) ∙ is))
+        absurd (false≢true (sym (get_or_past marks x false (omega (arith, long, beyond))) ∙ is))
     | inr l ↦ l
   ]
 

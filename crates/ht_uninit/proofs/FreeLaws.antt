@@ -27,10 +27,10 @@ use Rattle.ht_tree.specs.declared.token.Token.{Token}
 use Rattle.ht_tree.specs.declared.token.Token.TheVariants as token
 use Rattle.ht_tree.proofs.DecidedLaws.{decides_more, decides_value}
 use Rattle.ht_tree.proofs.MemberLaws.{member_filter, member_range}
-use Rattle.ht_records.proofs.BackFrameLaws.{cube_value}
+use Rattle.ht_records.proofs.BackFrameLaws.{cube_value, two_input}
 use Rattle.ht_records.proofs.BitPathLaws.{AreBitsAt, bit_definite, bit_read, bits_decided, bits_more}
 use Rattle.ht_records.proofs.CubeLaws.{cube_held}
-use Rattle.ht_records.proofs.LeadLaws.{IsInput}
+use Rattle.ht_records.proofs.LeadLaws.{IsInput, unknown_left}
 use Rattle.ht_records.proofs.ListLaws.{filter_member, range_member}
 use Rattle.ht_records.proofs.StackLaws.{EachNode, top_keeps}
 use Rattle.ht_uninit.specs.declared.record.Removed.{Removed}
@@ -51,10 +51,6 @@ use Rattle.ht_uninit.proofs.UnknownLaws.{sure_known}
 record IsOwn (c : Netlist) (u : List ℕ) (n : Node) : Type 0 where
   pub bits : AreBitsAt (IsInput c) n.decisions
   pub apart : (var : ℕ) → decides (held_unknown c u) var ≡ true → decides n.decisions var ≡ false
-
-two_input : (c : Netlist) (var : ℕ) (b : Bool) → IsTrue (b || false) → ltb var (1 * c.inputs) ≡ b → var < c.inputs
-two_input c var true h e = grind (arith, nat_tests)
-two_input c var false h e = absurd (false≢true h)
 
 three_latch : (c : Netlist) (var : ℕ) (b d e : Bool) → IsTrue ((b && d) && not e) → leb c.inputs var ≡ b
     → (c.inputs ≤ var) × (e ≡ false)
@@ -125,10 +121,6 @@ decided_before (x ∷ xs) ys var none =
 unknown_or_none : (o : Option Tern) → (o ≡ None) ⊎ (o ≡ Some Unk) → or_unknown o ≡ Unk
 unknown_or_none o (inl e) = rw e refl
 unknown_or_none o (inr e) = rw e refl
-
-unknown_left : (d : Option Tern) → IsMember (or_unknown d) (latch_values_left d)
-unknown_left None = inr (inr (inl refl))
-unknown_left (Some v) = inl refl
 
 module _ (c : Netlist) (budget : ℕ) (u : List ℕ) (x : ℕ) (sets : List Assign3)
     (finds : FindsKnown c budget u x sets) where

@@ -15,12 +15,8 @@ use Rattle.ht_tree.specs.FamilyRows.{ClosesByRows, dffs_of, row_set, start_set}
 use Rattle.ht_tree.specs.Rising.{Rises}
 use Rattle.ht_entries.specs.BySets.{IsBySetsText}
 use Rattle.ht_entries.proofs.RisesLaws.{rises_cons, rises_one, rises_tail}
+use Rattle.ht_entries.proofs.PairsTextLaws.{some_of_member}
 use Rattle.ht_valid.specs.WritableEntries.{AreInOrder}
-
--- a set with a member has one
-some_member : (p : Pair) (set : List Pair) → IsMember p set → 0 < length set
-some_member p [] member = absurd member
-some_member p (q ∷ set) member = omega arith
 
 rises_past : (j k : ℕ) (xs : List ℕ) → Rises (j ∷ k ∷ xs) → Rises (j ∷ xs)
 rises_past j k [] rises = rises_one j
@@ -63,7 +59,7 @@ module _ (c : Netlist) (circuit : IsCircuit c) (fault : Fault) (start : List Ter
       let sets = passes.closes.sets in
       let long = length-map-range_with_len (λ (i : ℕ). row_set rows i (start_set start i)) 0 (length start) in
       let here : j < length start = omega (arith, inside, sets, long) in
-      some_member (pair (get_or start j Unk) (get_or start j Unk)) (row_set rows j (start_set start j))
+      some_of_member (pair (get_or start j Unk) (get_or start j Unk)) (row_set rows j (start_set start j))
       (subst (IsMember (pair (get_or start j Unk) (get_or start j Unk)))
       (get_or-map-range_with_len (λ (i : ℕ). row_set rows i (start_set start i)) 0 (length start) j j [] here (omega arith))
       (passes.closes.starts j here))

@@ -1,10 +1,8 @@
 -- The sets of a window, as one frame after the other is added.
-use Rattle.std.proofs.Common.{◌≡◌, ◌<◌, ◌≤◌, ◌+◌, ◌*◌, ◌++◌, inl, inr, ℕ, suc, List, [], length, get_or, length-append, map, refl, sym, ◌∙◌, ap, arith}
-use Rattle.std.specs.List.{range_with_len}
+use Rattle.std.proofs.Common.{◌≡◌, ◌<◌, ◌≤◌, ◌+◌, ◌*◌, ◌++◌, inl, inr, ℕ, suc, List, [], length, get_or, length-append, refl, sym, ◌∙◌, ap, arith}
 use Rattle.std.proofs.Math.Nat.{suc-mul, mul-le-mul_right}
 use Rattle.std.proofs.lemmas.Bool.Decides.{eqb_tells}
-use Rattle.std.proofs.lemmas.List.{ext_get_or, get_or_append_left, get_or-append-add}
-use Rattle.std.proofs.lemmas.List.FromFn.{length-map-range_with_len, get_or-map-range_with_len}
+use Rattle.std.proofs.lemmas.List.{get_or_append_left, get_or-append-add}
 use Rattle.ht_pairs.specs.Pairs.{Pair}
 use Rattle.ht_net.specs.Netlist.{net_count, no_net}
 use Rattle.ht_net.specs.Frame.{data_values, next_state}
@@ -13,13 +11,6 @@ use Rattle.ht_frame.specs.Values.{env_of}
 use Rattle.ht_tree.specs.declared.token.Assign3.{Assign3}
 use Rattle.ht_tree.specs.Windows.{SearchWindow, IsWindow, cell_at, first_latches, latches_at, pair_set_rules}
 use Rattle.ht_window.specs.Cells.{blank, env_at}
-
--- a list by number, read item by item
-pub listed : {V : Type 0} → (f : ℕ → V) (i n : ℕ) (xs : List V) (d : V) → length xs ≡ n
-    → ((k : ℕ) → k < n → get_or xs k d ≡ f (i + k)) → xs ≡ map f (range_with_len i n)
-listed f i n xs d e h =
-    ext_get_or d xs (map f (range_with_len i n)) (e ∙ sym (length-map-range_with_len f i n))
-    (λ k l. h k (omega (arith, l, e)) ∙ sym (get_or-map-range_with_len f i n k (i + k) d (omega (arith, l, e)) refl))
 
 -- the sets of the first n frames of a window
 pub record HasFrames (w : SearchWindow) (path : List Assign3) (n : ℕ) (sets : List (List Pair)) : Type 0 where

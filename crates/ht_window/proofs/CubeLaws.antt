@@ -1,13 +1,13 @@
 -- The latches of a cube, one by one.
-use Rattle.std.proofs.Common.{◌≡◌, ◌+◌, ◌∙◌, ◌↔◌, ℕ, suc, List, [], ◌∷◌, ◌++◌, Bool, true, false, ◌&&◌, ◌||◌, cond, length, refl, ap, sym, inl, inr, arith, IsTrue}
+use Rattle.std.proofs.Common.{◌≡◌, ◌+◌, ◌∙◌, ◌↔◌, ℕ, suc, List, [], ◌∷◌, ◌++◌, Bool, true, false, ◌&&◌, cond, length, refl, ap, sym, inl, inr, arith, IsTrue}
 use Rattle.std.specs.Prelude.{ltb}
 use Rattle.std.specs.List.{filter, list_all, range_with_len}
 use Rattle.std.proofs.lemmas.List.{append-nil}
 use Rattle.std.proofs.lemmas.List.Folds.{list_all-append}
 use Rattle.std.proofs.lemmas.Bool.Decides.{leb_tells}
 use Rattle.ht_tern.specs.declared.tern.Tern.{Tern}
-use Rattle.ht_pairs.specs.Pairs.{Pair, IsMember, is_member, same_pair}
-use Rattle.ht_pairs.proofs.PairTests.{same_pair-true, same_pair-from}
+use Rattle.ht_pairs.specs.Pairs.{Pair, IsMember, is_member}
+use Rattle.ht_pairs.proofs.SetLaws.{agree, is_member-true, is_member-from}
 use Rattle.ht_tree.specs.declared.token.Assign3.{Assign3}
 use Rattle.ht_tree.specs.declared.window.Spot.TheVariants.{State}
 use Rattle.ht_tree.specs.Windows.{SearchWindow, is_undetermined}
@@ -17,32 +17,9 @@ use Rattle.ht_window.specs.declared.cube.CubeSeen.{CubeSeen}
 use Rattle.ht_window.specs.Seen.{cube_seen_of, cube_seen_with}
 use Rattle.ht_window.proofs.SeenLaws.{find_push, filter_push}
 
-agree : (a b : Bool) → (a ≡ true → b ≡ true) → (b ≡ true → a ≡ true) → a ≡ b
-agree true b h k = sym (h refl)
-agree false true h k = k refl
-agree false false h k = refl
-
-or_true : (a b : Bool) → b ≡ true → (a || b) ≡ true
-or_true true b h = refl
-or_true false b h = h
-
-member_true : (p : Pair) (s : List Pair) → IsMember p s → is_member p s ≡ true
-member_true p [] h = absurd h
-member_true p (q ∷ s) (inl e) = ap (λ (b : Bool). b || is_member p s) (same_pair-from p q e)
-member_true p (q ∷ s) (inr h) = or_true (same_pair p q) (is_member p s) (member_true p s h)
-
-true_member : (p : Pair) (s : List Pair) → is_member p s ≡ true → IsMember p s
-true_member p [] h = cc
-true_member p (q ∷ s) h = by (same_pair p q) refl h (true_member p s)
-  where
-    by : (b : Bool) → same_pair p q ≡ b → (b || is_member p s) ≡ true → (is_member p s ≡ true → IsMember p s)
-        → IsMember p (q ∷ s)
-    by true e k rest = inl (same_pair-true p q e)
-    by false e k rest = inr (rest k)
-
 -- a bit that says whether a pair is in a set is `is_member` of them
 pub member_is : (p : Pair) (s : List Pair) (b : Bool) → IsTrue b ↔ IsMember p s → b ≡ is_member p s
-member_is p s b h = agree b (is_member p s) (λ e. member_true p s (h.0 e)) (λ e. h.1 (true_member p s e))
+member_is p s b h = agree b (is_member p s) (λ e. is_member-from p s (h.0 e)) (λ e. h.1 (is_member-true p s e))
 
 -- one more latch
 all_push : (test : ℕ → Bool) (latches : List ℕ) (j : ℕ) → list_all test (latches ++ j ∷ [])

@@ -5,11 +5,11 @@ use Rattle.std.proofs.lemmas.List.FromFn.{get_or-map-range_with_len}
 use Rattle.ht_pairs.specs.Pairs.{Pair}
 use Rattle.ht_net.specs.declared.fault.Fault.{Fault}
 use Rattle.ht_net.specs.declared.net.NetId.{NetId}
-use Rattle.ht_tree.proofs.PlaceLaws.{taken_at}
 use Rattle.ht_net.specs.Netlist.{net_count, first_gate_net, no_net}
 use Rattle.ht_net.specs.Netlist.{arg_at}
 use Rattle.ht_net.specs.Frame.{driver_value, gate_output}
 use Rattle.ht_net.proofs.FrameLaws.{driven_input, driven_latch, driven_gate, gate_same}
+use Rattle.ht_net.proofs.ValueLaws.{taken_get}
 use Rattle.ht_frame.specs.Values.{env_of}
 use Rattle.ht_tree.specs.declared.token.Assign3.{Assign3}
 use Rattle.ht_pairs.specs.Decided.{same_pairs}
@@ -39,7 +39,7 @@ latch_next w path values f g j at js result cell fault net r fs ns cs =
     let e : 0 + j ≡ j = omega arith in
     r ∙ ((λ i. (pair_set_rules (fs i)).data_pin j ((cs ∙ ap (λ (n : NetId). env_at w values g n.0) ns) i))
     ∙ sym (ap (λ (h : ℕ). get_or (latches_over w path values h) j blank) at
-    ∙ (taken_at (pair_set_rules w.fault) (env_at w values g) 0 w.circuit.dffs j blank js
+    ∙ (taken_get (pair_set_rules w.fault) (env_at w values g) 0 w.circuit.dffs j blank js
     ∙ ap (λ (k : ℕ). (pair_set_rules w.fault).data_pin k (env_at w values g (get_or w.circuit.dffs j no_net).0)) e)))
 
 -- what the decisions give an input, and a latch

@@ -5,11 +5,11 @@ use Rattle.ht_tern.specs.declared.tern.Tern.TheVariants.{Unk}
 use Rattle.ht_net.specs.declared.net.NetId.{NetId}
 use Rattle.ht_net.specs.Netlist.{net_count, no_net}
 use Rattle.ht_net.specs.Frame.{next_state}
-use Rattle.ht_tree.proofs.PlaceLaws.{taken_at}
 use Rattle.ht_events.specs.Items.{item_count, IsReader}
 use Rattle.ht_events.specs.Plans.{PlanState}
 use Rattle.ht_events.specs.Pending.{CoreState, IsPending, QuietAgree, core_items}
 use Rattle.ht_net.specs.declared.fault.Fault.{Fault}
+use Rattle.ht_net.proofs.ValueLaws.{taken_get}
 use Rattle.ht_tree.specs.declared.token.Assign3.{Assign3}
 use Rattle.ht_tree.specs.Windows.{SearchWindow, IsWindow, cell_at, latches_at, pair_set_rules}
 use Rattle.ht_window.specs.Standing.{Standing}
@@ -106,5 +106,5 @@ last_latch w path g j result cell fault net at js r fs ns cs =
     let s : w.frames ≡ suc g = omega (arith, at) in
     r ∙ ((λ i. (pair_set_rules (fs i)).data_pin j ((cs ∙ ap (λ (n : NetId). cell_at w path g n.0) ns) i))
     ∙ sym (ap (λ (h : ℕ). get_or (latches_at w path h) j blank) s
-    ∙ (taken_at (pair_set_rules w.fault) (cell_at w path g) 0 w.circuit.dffs j blank js
+    ∙ (taken_get (pair_set_rules w.fault) (cell_at w path g) 0 w.circuit.dffs j blank js
     ∙ ap (λ (k : ℕ). (pair_set_rules w.fault).data_pin k (cell_at w path g (get_or w.circuit.dffs j no_net).0)) e)))

@@ -3,8 +3,8 @@ use Rattle.std.proofs.Common.{◌≡◌, ◌≢◌, ◌<◌, ◌≤◌, ◌+◌,
 use Rattle.ht_pairs.specs.Pairs.{Pair}
 use Rattle.ht_net.specs.Netlist.{net_count, first_gate_net, arg_at, no_net}
 use Rattle.ht_net.specs.Frame.{net_value_over}
+use Rattle.ht_net.proofs.ValueLaws.{taken_get}
 use Rattle.ht_events.specs.Items.{item_at, IsReader}
-use Rattle.ht_tree.proofs.PlaceLaws.{taken_at}
 use Rattle.ht_tree.specs.declared.token.Assign3.{Assign3}
 use Rattle.ht_tree.specs.Windows.{SearchWindow, IsWindow, pair_set_rules, frame_inputs}
 use Rattle.ht_relevant.specs.Relevant.{IsClosedBack}
@@ -27,12 +27,12 @@ module _ (w : SearchWindow) (valid : IsWindow w) (path : List Assign3) where
         let d = (get_or w.circuit.dffs j no_net).0 in
         let new = set values (cell_index w f x) v in
         let r = pair_set_rules w.fault in
-        taken_at r (env_at w values g) 0 w.circuit.dffs j blank js
+        taken_get r (env_at w values g) 0 w.circuit.dffs j blank js
         ∙ (ap (r.data_pin (0 + j)) (elim (this_or_other w values count f x v fs xs g d) [
           | inl same ↦ absurd (free (dff_reads w.circuit w.frames f x g j js gs same.0 same.1))
           | inr ne ↦ sym (unwritten w values count f x v fs xs g d (valid.circuit.data_known j js) ne)
         ])
-        ∙ sym (taken_at r (env_at w new g) 0 w.circuit.dffs j blank js))
+        ∙ sym (taken_get r (env_at w new g) 0 w.circuit.dffs j blank js))
 
     -- a net that doesn't read the cell that is written gets what it got
     pub unread : (g y : ℕ) → g < w.frames → y < net_count w.circuit

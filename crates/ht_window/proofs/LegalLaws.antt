@@ -1,14 +1,15 @@
 -- Which variables a window has.
-use Rattle.std.proofs.Common.{◌≡◌, ◌<◌, ◌+◌, ◌-◌, ◌/◌, ◌%◌, ◌⊎◌, inl, inr, ℕ, List, Bool, true, false, Option, ◌||◌, length, refl, arith}
+use Rattle.std.proofs.Common.{◌≡◌, ◌<◌, ◌+◌, ◌-◌, ◌/◌, ◌%◌, ◌⊎◌, inl, inr, ℕ, List, Bool, true, false, ◌||◌, length, refl, arith}
 use Rattle.std.specs.Prelude.{ltb, leb, ◌&&◌}
 use Rattle.std.proofs.lemmas.Bool.Decides.{nat_tests}
+use Rattle.std.proofs.lemmas.Bool.{ltb-true}
 use Rattle.ht_tern.specs.declared.tern.Tern.{Tern}
-use Rattle.ht_net.specs.declared.fault.Fault.{Fault}
 use Rattle.ht_net.specs.Netlist.{Netlist, first_gate_net}
 use Rattle.ht_net.proofs.FrameLaws.{le_or_lt}
 use Rattle.ht_tree.specs.Decisions.{is_in}
-use Rattle.ht_tree.specs.Windows.{SearchWindow, Start, one_frame, unknown, state_pair, back, IsWindow, IsStart, first_input}
+use Rattle.ht_tree.specs.Windows.{SearchWindow, Start, one_frame, unknown, state_pair, back, IsWindow, first_input}
 use Rattle.ht_tree.specs.Variables.{two_of_start, three_of_start, is_latch, is_faulty_latch}
+use Rattle.ht_tree.proofs.BeginLaws.{some_frame}
 use Rattle.ht_window.specs.States.{IsLegalDecision}
 use Rattle.ht_window.specs.Cells.{var_frame, var_net}
 use Rattle.ht_window.proofs.PlaceLaws.{rows_frame, rows_local}
@@ -27,18 +28,15 @@ or_small : {X : Type 0} → (a b : Bool) → (a || b) ≡ true → (a ≡ true �
 or_small true b h f g = f refl
 or_small false b h f g = g h
 
-ltb_less : (a b : ℕ) → ltb a b ≡ true → a < b
-ltb_less a b h = grind (arith, nat_tests, h)
-
 latch_less : (c : Netlist) (var : ℕ) → is_latch c var ≡ true → var < first_gate_net c
-latch_less c var h = ltb_less var (first_gate_net c) (and_right (leb c.inputs var) (ltb var (first_gate_net c)) h)
+latch_less c var h = ltb-true var (first_gate_net c) (and_right (leb c.inputs var) (ltb var (first_gate_net c)) h)
 
 latch_small : (c : Netlist) (var : ℕ) → is_latch c var ≡ true → var < first_gate_net c + length c.dffs
 latch_small c var h = let l = latch_less c var h in omega (arith, l)
 
 faulty_small : (c : Netlist) (z : List ℕ) (var : ℕ) → is_faulty_latch c z var ≡ true → var < first_gate_net c
     + length c.dffs
-faulty_small c z var h = ltb_less var (first_gate_net c + length c.dffs)
+faulty_small c z var h = ltb-true var (first_gate_net c + length c.dffs)
     (and_left (ltb var (first_gate_net c + length c.dffs)) (is_in z (var - first_gate_net c))
     (and_right (leb (first_gate_net c) var)
     (ltb var (first_gate_net c + length c.dffs) && is_in z (var - first_gate_net c)) h))
@@ -57,16 +55,9 @@ three_small c unknown var h = cc
 three_small c (state_pair good faulty) var h = cc
 three_small c (back cube limit) var h = latch_less c var h
 
--- a start only fits one frame or more
-pub start_frames : (c : Netlist) (fault : Option Fault) (k : ℕ) (s : Start) → IsStart c fault k s → 0 < k
-start_frames c fault k (one_frame z) h = let e = h in omega (arith, e)
-start_frames c fault k unknown h = h
-start_frames c fault k (state_pair good faulty) h = h.0
-start_frames c fault k (back cube limit) h = let e = h.0 in omega (arith, e)
-
 -- a window has one frame or more
 pub some_frames : (w : SearchWindow) → IsWindow w → 0 < w.frames
-some_frames w valid = start_frames w.circuit w.fault w.frames w.start valid.start
+some_frames w valid = some_frame w.circuit w.fault w.frames w.start valid.start
 
 legal_var : (w : SearchWindow) (var : ℕ) (v : Tern) → IsLegalDecision w var v → (var < first_input w w.frames)
     ⊎ (var < first_gate_net w.circuit + length w.circuit.dffs)

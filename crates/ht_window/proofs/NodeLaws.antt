@@ -1,5 +1,5 @@
 -- What a window says of the node where its decisions stand.
-use Rattle.std.proofs.Common.{◌≡◌, ◌≢◌, ◌||◌, ℕ, List, false, IsTrue, refl, sym, ◌∙◌, ap, subst, inl, inr}
+use Rattle.std.proofs.Common.{◌≡◌, ◌≢◌, ◌||◌, ℕ, List, false, IsTrue, sym, ◌∙◌, ap, subst, inl, inr}
 use Rattle.std.proofs.lemmas.Bool.{or_cases}
 use Rattle.ht_tern.specs.declared.tern.Tern.{Tern}
 use Rattle.ht_tern.specs.declared.tern.Tern.TheVariants.{Zero, One, Unk}
@@ -7,8 +7,7 @@ use Rattle.ht_tree.specs.declared.token.Assign3.{Assign3}
 use Rattle.ht_tree.specs.declared.token.Choice.{Choice}
 use Rattle.ht_tree.specs.declared.token.Choice.TheVariants as choice
 use Rattle.ht_tree.specs.declared.token.Status3.TheVariants as status3
-use Rattle.ht_tree.specs.declared.window.Status.{Status}
-use Rattle.ht_tree.specs.declared.window.Status.TheVariants.{Dead, Sure, Open}
+use Rattle.ht_tree.specs.declared.window.Status.TheVariants.{Open}
 use Rattle.ht_tree.specs.Walks.{Node, Fits, decides, path_of}
 use Rattle.ht_tree.specs.Searches.{guide_of, deciding_token}
 use Rattle.ht_tree.specs.Windows.{SearchWindow}
@@ -67,9 +66,3 @@ module _ (first w : SearchWindow) (n : Node) (ds : List Assign3) (at : window_at
     decision_legal var Zero may = legal_by var Zero (λ e. cc) may.legal
     decision_legal var One may = legal_by var One (λ e. cc) may.legal
     decision_legal var Unk may = inr (subst IsTrue (sym (three_is var)) may.legal)
-
--- a status by itself without its place
-pub open_alone : (s : Status) → without_place s ≡ status3.Open → s ≡ Open
-open_alone Dead h = cc
-open_alone (Sure frame place) h = cc
-open_alone Open h = refl

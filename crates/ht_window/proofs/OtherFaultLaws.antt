@@ -9,11 +9,11 @@ use Rattle.ht_net.specs.declared.fault.Site.TheVariants.{Stem, DffPin, GatePin}
 use Rattle.ht_net.specs.declared.fault.Fault.{Fault}
 use Rattle.ht_net.specs.Netlist.{Netlist, net_count, first_gate_net, gate_at, no_net}
 use Rattle.ht_net.specs.Frame.{net_value, net_value_over, driver_value, gate_output, next_state}
-use Rattle.ht_net.specs.Faults.{forced, is_stem, is_data_pin}
+use Rattle.ht_net.specs.Faults.{forced}
 use Rattle.ht_net.proofs.FrameLaws.{le_or_lt, driven_input, driven_latch, driven_gate}
+use Rattle.ht_net.proofs.ValueLaws.{taken_get}
 use Rattle.ht_frame.specs.StuckPins.{is_at_gate, is_pin_of}
 use Rattle.ht_frame.proofs.PinLaws.{plain_pins}
-use Rattle.ht_tree.proofs.PlaceLaws.{taken_at}
 use Rattle.ht_tree.specs.declared.token.Assign3.{Assign3}
 use Rattle.ht_tree.specs.Decisions.{is_in, decided_value, latch_pairs, latch_values_left}
 use Rattle.ht_tree.specs.Windows.{SearchWindow, Start, one_frame, unknown, state_pair, back, IsWindow, first_latch, frame_inputs, pair_set_rules, latches_at}
@@ -22,23 +22,13 @@ use Rattle.ht_window.specs.Cells.{env_at, blank, latches_over, value_over, Holds
 use Rattle.ht_window.specs.Standing.{Standing}
 use Rattle.ht_window.specs.Holding.{HeldState}
 use Rattle.ht_relevant.specs.Reached.{leads_to, begins_at}
+use Rattle.ht_relevant.proofs.ReachLaws.{stem_apart, data_apart}
 use Rattle.ht_window.specs.Renewals.{HoldsElsewhere}
 use Rattle.ht_window.proofs.PlaceLaws.{rows_inside}
 use Rattle.ht_window.proofs.ReaderLaws.{over_same}
 use Rattle.ht_window.proofs.HoldLaws.{cells_hold}
 
--- a stem, a data pin and the pins of a gate that the fault isn't at
-no_stem : (c : Netlist) (site : Site) (x : ℕ) → leads_to c site x ≡ false → is_stem site x ≡ false
-no_stem c (Stem y) x h = h
-no_stem c (DffPin k) x h = refl
-no_stem c (GatePin g k) x h = refl
-
-no_data_pin : (c : Netlist) (site : Site) (j : ℕ) → j < length c.dffs → leads_to c site (c.inputs + j) ≡ false
-    → is_data_pin site j ≡ false
-no_data_pin c (Stem y) j js h = refl
-no_data_pin c (GatePin g k) j js h = refl
-no_data_pin c (DffPin k) j js h = grind (arith, nat_tests, h)
-
+-- the pins of a gate that the fault isn't at
 no_gate : (c : Netlist) (site : Site) (x : ℕ) → first_gate_net c ≤ x → leads_to c site x ≡ false
     → is_pin_of site (x - first_gate_net c) ≡ false
 no_gate c (Stem y) x at h = refl
@@ -54,14 +44,14 @@ plain_stem : (c : Netlist) (fault : Option Fault) (x : ℕ) (v : List Pair) → 
     → (pair_set_rules fault).stem x v ≡ v
 unfolding forced
 plain_stem c None x v h = refl
-plain_stem c (Some fault) x v h = ap (λ (b : Bool). cond b (stuck_set fault.value v) v) (no_stem c fault.site x h)
+plain_stem c (Some fault) x v h = ap (λ (b : Bool). cond b (stuck_set fault.value v) v) (stem_apart c fault.site x h)
 
 plain_data_pin : (c : Netlist) (fault : Option Fault) (j : ℕ) (v : List Pair) → j < length c.dffs
     → begins_at c fault (c.inputs + j) ≡ false → (pair_set_rules fault).data_pin j v ≡ v
 unfolding forced
 plain_data_pin c None j v js h = refl
 plain_data_pin c (Some fault) j v js h = ap (λ (b : Bool). cond b (stuck_set fault.value v) v)
-    (no_data_pin c fault.site j js h)
+    (data_apart c fault.site j js h)
 
 plain_gate : (c : Netlist) (fault : Option Fault) (e : ℕ → List Pair) (x : ℕ) → first_gate_net c ≤ x
     → begins_at c fault x ≡ false
@@ -101,12 +91,12 @@ module _ (w : SearchWindow) (path : List Assign3) (values : List (List Pair)) wh
       let e = env_at w values f in
       let at : 0 + j ≡ j = omega arith in
       let v = e (get_or c.dffs j no_net).0 in
-      taken_at (pair_set_rules w.fault) e 0 c.dffs j blank js
+      taken_get (pair_set_rules w.fault) e 0 c.dffs j blank js
       ∙ (ap (λ (k : ℕ). (pair_set_rules w.fault).data_pin k v) at
       ∙ (plain_data_pin c w.fault j v js free
       ∙ (sym (plain_data_pin c None j v js refl)
       ∙ (sym (ap (λ (k : ℕ). (pair_set_rules None).data_pin k v) at)
-      ∙ sym (taken_at (pair_set_rules None) e 0 c.dffs j blank js)))))
+      ∙ sym (taken_get (pair_set_rules None) e 0 c.dffs j blank js)))))
 
   -- a net that the fault doesn't reach first gets what it gets in the good machine
   unreached : (f x : ℕ) → begins_at w.circuit w.fault x ≡ false

@@ -11,7 +11,7 @@ use Rattle.ht_tern.specs.declared.tern.Tern.TheVariants.{Unk}
 use Rattle.ht_net.specs.declared.net.NetId.{NetId}
 use Rattle.ht_net.specs.Netlist.{Netlist, no_net}
 use Rattle.ht_net.specs.Frame.{next_state}
-use Rattle.ht_tree.proofs.PlaceLaws.{taken_at}
+use Rattle.ht_net.proofs.ValueLaws.{taken_get}
 use Rattle.ht_tree.specs.declared.window.Spot.TheVariants.{Output, State}
 use Rattle.ht_tree.specs.declared.token.Assign3.{Assign3}
 use Rattle.ht_tree.specs.declared.window.WindowPlace.{WindowPlace}
@@ -120,7 +120,7 @@ unfolding latches_at next_state
 next_set w path j one inside =
     let at : 0 + j ≡ j = omega arith in
     ap (λ (f : ℕ). get_or (latches_at w path f) j (pair Unk Unk ∷ [])) one
-    ∙ (taken_at (pair_set_rules w.fault) (cell_at w path 0) 0 w.circuit.dffs j (pair Unk Unk ∷ []) inside ∙ ap
+    ∙ (taken_get (pair_set_rules w.fault) (cell_at w path 0) 0 w.circuit.dffs j (pair Unk Unk ∷ []) inside ∙ ap
     (λ (k : ℕ). (pair_set_rules w.fault).data_pin k (cell_at w path 0 (get_or w.circuit.dffs j no_net).0)) at)
 
 -- from an output of a frame on: it shows what is looked for, or what is left is after it

@@ -1,7 +1,7 @@
 -- The walk back, gate by gate and frame by frame.
-use Rattle.std.proofs.Common.{◌≡◌, ◌<◌, ◌≤◌, ◌+◌, ◌-◌, ◌∷◌, [], ◌∙◌, ℕ, suc, zero, List, Bool, true, false, cond, length, get_or, refl, ap, sym, inl, inr, arith}
+use Rattle.std.proofs.Common.{◌≡◌, ◌<◌, ◌≤◌, ◌+◌, ◌-◌, ◌∷◌, [], ◌∙◌, ℕ, suc, zero, List, Bool, true, false, cond, length, get_or, refl, ap, sym, arith}
 use Rattle.std.specs.Prelude.{ltb}
-use Rattle.std.proofs.lemmas.Bool.Decides.{leb_tells}
+use Rattle.std.proofs.lemmas.Bool.{cond-false, cond-true, le-ltb, lt-ltb}
 use Rattle.ht_pairs.specs.Pairs.{Pair}
 use Rattle.ht_net.specs.declared.net.NetId.{NetId}
 use Rattle.ht_net.specs.Netlist.{Netlist, IsCircuit, first_gate_net, net_count, gate_at, no_net}
@@ -15,20 +15,6 @@ use Rattle.ht_tree.specs.Places.{spot_net}
 use Rattle.ht_tree.specs.WalkBack.{Wanted, undetermined_argument, bit_before, back_over, end_in_frame, latch_choice, choice_at}
 use Rattle.ht_relevant.specs.Relevant.{IsClosedBack}
 use Rattle.ht_tree.proofs.ChoiceLaws.{ends_undetermined, latch_undetermined, before_undetermined}
-
-cond_no : {X : Type 0} → (b : Bool) (x y : X) → b ≡ false → cond b x y ≡ y
-cond_no false x y e = refl
-cond_no true x y e = cc
-
-cond_yes : {X : Type 0} → (b : Bool) (x y : X) → b ≡ true → cond b x y ≡ x
-cond_yes true x y e = refl
-cond_yes false x y e = cc
-
-not_below : (a b : ℕ) → b ≤ a → ltb a b ≡ false
-not_below a b h = elim (leb_tells (suc a) b) [ inl p ↦ let l = p.1 in absurd (omega (arith, l, h)) | inr p ↦ p.0 ]
-
-below : (a b : ℕ) → a < b → ltb a b ≡ true
-below a b h = elim (leb_tells (suc a) b) [ inl p ↦ p.0 | inr p ↦ let l = p.1 in absurd (omega (arith, l, h)) ]
 
 -- within a frame
 pub back_step : (c : Netlist) (r : Rules (List Pair)) (env : ℕ → List Pair) (k : ℕ) (at next : Wanted) → 0 < k
@@ -46,7 +32,7 @@ back_step c r env (suc k) at next some high is =
     let e : suc k - 1 ≡ k = omega arith in
     ap (λ (n : ℕ). back_over c r env n next) e ∙
     (ap (back_over c r env k) is ∙ sym
-    (cond_no (ltb at.net (first_gate_net c)) at _ (not_below at.net (first_gate_net c) high)))
+    (cond-false (ltb at.net (first_gate_net c)) at _ (le-ltb at.net (first_gate_net c) high)))
 
 -- over no gates the walk back stays where it is
 pub back_none : (c : Netlist) (r : Rules (List Pair)) (env : ℕ → List Pair) (k : ℕ) (at : Wanted) → k ≡ 0
@@ -60,7 +46,7 @@ pub back_low : (c : Netlist) (r : Rules (List Pair)) (env : ℕ → List Pair) (
     → at.net < first_gate_net c → back_over c r env k at ≡ at
 unfolding back_over
 back_low c r env zero at low = refl
-back_low c r env (suc k) at low = cond_yes (ltb at.net (first_gate_net c)) at _ (below at.net (first_gate_net c) low)
+back_low c r env (suc k) at low = cond-true (ltb at.net (first_gate_net c)) at _ (lt-ltb at.net (first_gate_net c) low)
 
 -- an argument, or net 0, is a net
 argument_in : (r : Rules (List Pair)) (g : ℕ) (env : ℕ → List Pair) (i : ℕ) (args : List NetId) (n : ℕ) → 0 < n
@@ -98,14 +84,14 @@ module _ (w : SearchWindow) (path : List Assign3) (circuit : IsCircuit w.circuit
   pub choice_input : (f : ℕ) (at : Wanted) → at.net < w.circuit.inputs → choice_at w path f at
       ≡ Two (first_input w f + at.net) at.bit
   unfolding choice_at
-  choice_input zero at low = cond_yes (ltb at.net w.circuit.inputs) _ _ (below at.net w.circuit.inputs low)
-  choice_input (suc f) at low = cond_yes (ltb at.net w.circuit.inputs) _ _ (below at.net w.circuit.inputs low)
+  choice_input zero at low = cond-true (ltb at.net w.circuit.inputs) _ _ (lt-ltb at.net w.circuit.inputs low)
+  choice_input (suc f) at low = cond-true (ltb at.net w.circuit.inputs) _ _ (lt-ltb at.net w.circuit.inputs low)
 
   -- at a latch of the first frame the choice is the one of the start
   pub choice_latch : (f : ℕ) (at : Wanted) → f ≡ 0 → w.circuit.inputs ≤ at.net → choice_at w path f at
       ≡ latch_choice w path w.start at
   unfolding choice_at
-  choice_latch zero at e high = cond_no (ltb at.net w.circuit.inputs) _ _ (not_below at.net w.circuit.inputs high)
+  choice_latch zero at e high = cond-false (ltb at.net w.circuit.inputs) _ _ (le-ltb at.net w.circuit.inputs high)
   choice_latch (suc f) at e high = absurd (omega (arith, e))
 
   -- one frame back
@@ -121,7 +107,7 @@ module _ (w : SearchWindow) (path : List Assign3) (circuit : IsCircuit w.circuit
       ap (λ (n : ℕ). choice_at w path n
       (end_in_frame w path n
       (record { net = spot_net w.circuit (State (at.net - w.circuit.inputs)); bit = at.bit }))) e
-      ∙ sym (cond_no (ltb at.net w.circuit.inputs) _ _ (not_below at.net w.circuit.inputs high))
+      ∙ sym (cond-false (ltb at.net w.circuit.inputs) _ _ (le-ltb at.net w.circuit.inputs high))
 
   -- a data net matters one frame before its latch
   pub data_matters : (is : ℕ → ℕ → Bool) → IsClosedBack w.circuit w.frames is → (f x : ℕ) → f < w.frames → 0 < f

@@ -3,7 +3,7 @@ use Rattle.ht_tern.specs.declared.tern.Tern.{Tern}
 use Rattle.ht_tern.specs.declared.tern.Tern.TheVariants.{Unk}
 use Rattle.ht_tree.specs.Decisions.{decided_value}
 use Rattle.ht_tree.specs.Nodes.{or_unknown}
-use Rattle.ht_recompute.proofs.DecisionLaws.{listed_by}
+use Rattle.ht_tree.proofs.MemberLaws.{listed_by}
 use Rattle.ht_recompute.proofs.cube.decided_cube.Goals as goal
 
 pub returns-clause-cube : goal.returns-clause-cube

@@ -1,7 +1,7 @@
 use Rattle.std.proofs.Common.{◌∙◌, ap, arith}
+use Rattle.std.proofs.lemmas.Bool.{lt-ltb}
 use Rattle.ht_net.specs.declared.net.NetId.{NetId}
 use Rattle.ht_relevant.specs.Distances.{number_of}
-use Rattle.ht_relevant.proofs.DistanceLaws.{less_true}
 use Rattle.ht_relevant.proofs.PutLaws.{net_at, none_put, one_more_put, output_shown, still_inside}
 use Rattle.ht_relevant.proofs.find.put_outputs.Goals as goal
 
@@ -20,7 +20,7 @@ loop-o-preserved c =
     let e = c.in_ok-put_if.ensures in
     one_more_put c.args.near.now (net_at c.args.circuit.now.outputs) (output_shown a) c.loop-o.near c.put_if.new.self
     c.loop-o.o x c.loop-o.invariant e.grown (ap (λ (x : NetId). x.0) c.output-net.ensures)
-    (λ is. e.put (c.has-shown.ensures ∙ less_true (number_of a x) a.frames is))
+    (λ is. e.put (c.has-shown.ensures ∙ lt-ltb (number_of a x) a.frames is))
 
 pub returns-clause-put : goal.returns-clause-put
 returns-clause-put c = λ o os is.

@@ -1,5 +1,5 @@
 use Rattle.std.proofs.Common.{◌∙◌}
-use Rattle.ht_window.proofs.NodeLaws.{open_alone}
+use Rattle.ht_tree.proofs.BeginLaws.{open_alone}
 use Rattle.ht_justify.proofs.ProblemLaws.{status_here, choice_here, choice_fits_here}
 use Rattle.ht_justify.proofs.problem.BackWindowsProblem.pick.Goals as goal
 

@@ -2,8 +2,8 @@ use Rattle.std.proofs.Common.{◌≡◌, ◌<◌, ◌+◌, [], ◌∙◌, List, 
 use Rattle.std.proofs.lemmas.List.{with_items_is}
 use Rattle.ht_pairs.specs.Pairs.{Pair}
 use Rattle.ht_net.specs.Netlist.{Netlist}
+use Rattle.ht_tree.proofs.MemberLaws.{listed_by}
 use Rattle.ht_recompute.specs.FreshStarts.{first_latch_by, fresh_start, latches_by}
-use Rattle.ht_recompute.proofs.DecisionLaws.{listed_by}
 use Rattle.ht_recompute.proofs.frame_sets.FrameSets.begin.Goals as goal
 
 pub returns : goal.returns

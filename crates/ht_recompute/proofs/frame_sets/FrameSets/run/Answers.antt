@@ -5,9 +5,9 @@ use Rattle.ht_pairs.specs.Pairs.{Pair}
 use Rattle.ht_pairs.specs.Decided.{same_pairs}
 use Rattle.ht_net.specs.Frame.{frame_outputs, next_state}
 use Rattle.ht_tree.specs.Windows.{pair_set_rules}
+use Rattle.ht_tree.proofs.MemberLaws.{listed_by}
 use Rattle.ht_recompute.specs.FrameSetsOf.{FrameState, frame_after, inputs_by}
 use Rattle.ht_recompute.specs.KeptFramesOf.{KeptState}
-use Rattle.ht_recompute.proofs.DecisionLaws.{listed_by}
 use Rattle.ht_recompute.proofs.frame_sets.FrameSets.run.Goals as goal
 
 pub returns : goal.returns

@@ -1,5 +1,5 @@
 use Rattle.std.proofs.Common.{◌∙◌, sym}
-use Rattle.ht_recompute.proofs.FreshLaws.{two_at}
+use Rattle.ht_tree.proofs.NodeLaws.{two_at}
 use Rattle.ht_recompute.proofs.fresh_window.FreshWindowJudgedWindow.may_two.Goals as goal
 
 pub returns : goal.returns

@@ -1,8 +1,8 @@
 use Rattle.std.proofs.Common.{sym, subst}
 use Rattle.ht_net.specs.Netlist.{Netlist}
 use Rattle.ht_tree.specs.Windows.{IsStart}
+use Rattle.ht_tree.proofs.BeginLaws.{some_frame}
 use Rattle.ht_window.specs.Starts.{start_of}
-use Rattle.ht_window.proofs.LegalLaws.{start_frames}
 use Rattle.ht_window.proofs.bases.Bases.base.Goals as goal
 
 pub returns-then-has_front-clause-base : goal.returns-then-has_front-clause-base
@@ -18,7 +18,7 @@ returns-then-has_front-clause-base c =
       base = base;
       few = front.few is;
       front = subst (λ (k : Netlist). IsStart k w.fault s.frames w.start) base.circuit
-          (front.front is (start_frames circuit s.fault s.frames start c.requires.start));
+          (front.front is (some_frame circuit s.fault s.frames start c.requires.start));
       fits = subst (λ (k : Netlist). IsStart k s.fault w.frames start) base.circuit
           (front.fits is (subst (λ (k : Netlist). IsStart k s.fault s.frames start) (sym base.circuit)
           c.requires.start));

@@ -1,5 +1,5 @@
 use Rattle.std.proofs.Common.{◌∙◌}
-use Rattle.ht_window.proofs.NodeLaws.{open_alone}
+use Rattle.ht_tree.proofs.BeginLaws.{open_alone}
 use Rattle.ht_window.proofs.TrialLaws.{status_here, choice_here, choice_fits_here}
 use Rattle.ht_window.proofs.trial.TrialProblem.pick.Goals as goal
 
