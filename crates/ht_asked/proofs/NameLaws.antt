@@ -4,6 +4,7 @@ use Rattle.std.specs.Prelude.{find}
 use Rattle.std.specs.Str.{bytes_eq}
 use Rattle.std.proofs.lemmas.List.Folds.{list_any-append}
 use Rattle.std.proofs.lemmas.Slice.Eq.{bytes_eq-Decides}
+use Rattle.std.proofs.lemmas.Bool.{not-true}
 use Rattle.clap.specs.Walk.{Text}
 use Rattle.ht_asked.specs.Forms.{all_differ, is_among}
 use Rattle.ht_asked.proofs.Looks.{true_is_false}
@@ -27,10 +28,6 @@ left_true false b e = absurd (true_is_false (sym e))
 pub right_true : (a b : Bool) → (a && b) ≡ true → b ≡ true
 right_true true b e = e
 right_true false b e = absurd (true_is_false (sym e))
-
-not_true : (a : Bool) → not a ≡ true → a ≡ false
-not_true true e = absurd (true_is_false (sym e))
-not_true false e = refl
 
 -- a name passes the test against itself
 pub same_name : (x : Text) → bytes_eq x x ≡ true
@@ -81,7 +78,7 @@ found name (n ∷ ns) = go (bytes_eq n name) refl (found name ns)
 
 -- of names that all differ, the first isn't among the others
 pub first_differs : (x : Text) (names : List Text) → all_differ (x ∷ names) ≡ true → is_among x names ≡ false
-first_differs x names e = not_true (is_among x names) (left_true _ (all_differ names) e)
+first_differs x names e = not-true (is_among x names) (left_true _ (all_differ names) e)
 
 -- names that all differ do so without the first
 pub others_differ : (x : Text) (names : List Text) → all_differ (x ∷ names) ≡ true → all_differ names ≡ true

@@ -8,6 +8,7 @@ use Rattle.std.proofs.lemmas.List.Elements.{All-contains, Contains-push, Contain
 use Rattle.ht_cubes.specs.declared.signed_var.SignedVar.{SignedVar}
 use Rattle.ht_cubes.specs.Formula.{complement}
 use Rattle.ht_net.proofs.KeptLaws.{contains_map}
+use Rattle.ht_net.proofs.SilenceLaws.{not_itself}
 use Rattle.ht_cubes.specs.Steps.{IsFalse, Leaves, Fails, IsNumber, Clash, HasNoOpposites, clause_at}
 use Rattle.ht_cubes.specs.Values.{IsTrueIn, IsFalseIn, SayFacts, StandsSo, IsOpen}
 use Rattle.ht_cubes.proofs.MeaningLaws.{mapped_from}
@@ -16,10 +17,6 @@ use Rattle.ht_cubes.proofs.StandingLaws.{contains_take}
 twice : (b : Bool) → not (not b) ≡ b
 twice true = refl
 twice false = refl
-
-not_same : (b : Bool) → b ≡ not b → ⊥
-not_same true e = cc
-not_same false e = cc
 
 -- the complement of a complement is the signed variable itself
 pub complement_twice : (l : SignedVar) → complement (complement l) ≡ l
@@ -113,7 +110,7 @@ module _ (facts : List SignedVar) (values : List (Option Bool)) (say : SayFacts 
   open_fails : (clause : List SignedVar) → IsOpen values clause → Fails facts clause → ⊥
   open_fails clause (inl (l, inside, is)) fails =
       let wrong = false_from l (All-contains (IsFalse facts) clause l fails inside) in
-      not_same l.value (let e : Some l.value ≡ Some (not l.value) = sym is ∙ wrong in cc)
+      not_itself l.value (let e : Some l.value ≡ Some (not l.value) = sym is ∙ wrong in cc)
   open_fails clause (inr (l, m, inside, other, differ, one, two)) fails =
       none_some (sym one ∙ false_from l (All-contains (IsFalse facts) clause l fails inside))
 
@@ -122,7 +119,7 @@ module _ (facts : List SignedVar) (values : List (Option Bool)) (say : SayFacts 
       elim (All-contains (λ other. (other ≡ n) ⊎ IsFalse facts other) clause l leaves.others inside) [
         | inl same ↦ let P : SignedVar → Type 0 = λ k. Contains facts k in
             leaves.not_true (subst P same ((say l).1 is))
-        | inr wrong ↦ not_same l.value (let e : Some l.value ≡ Some (not l.value) = sym is ∙ false_from l wrong in cc)
+        | inr wrong ↦ not_itself l.value (let e : Some l.value ≡ Some (not l.value) = sym is ∙ false_from l wrong in cc)
       ]
   open_leaves clause n (inr (l, m, inside, other, differ, one, two)) leaves =
       differ (is l inside one ∙ sym (is m other two))
@@ -200,7 +197,7 @@ deny_plain clause values say l one two =
     let here : IsTrueIn values (complement l) = (say (complement l)).0 (contains_map complement clause l one) in
     let there : IsTrueIn values (complement (complement l)) =
     (say (complement (complement l))).0 (contains_map complement clause (complement l) two) in
-    not_same (not l.value) (let e : Some (not l.value) ≡ Some (not (not l.value)) = sym here ∙ there in cc)
+    not_itself (not l.value) (let e : Some (not l.value) ≡ Some (not (not l.value)) = sym here ∙ there in cc)
 
 deny_take : (clause : List SignedVar) (i : ℕ) (d : SignedVar) → i < length clause
     → map complement (take i clause) ++ complement (get_or clause i d) ∷ [] ≡ map complement (take (i + 1) clause)

@@ -1,6 +1,7 @@
 -- The values at the pins of a gate, read from the nets one by one.
-use Rattle.std.proofs.Common.{◌≡◌, ◌<◌, ◌+◌, ◌∙◌, ◌&&◌, ℕ, List, [], ◌∷◌, Bool, true, false, Option, Some, None, cond, eqb, length, get_or, drop, refl, ap, sym}
+use Rattle.std.proofs.Common.{◌≡◌, ◌<◌, ◌+◌, ◌∙◌, ◌&&◌, ℕ, List, [], ◌∷◌, Bool, false, Option, Some, None, eqb, length, get_or, drop, refl, ap, sym}
 use Rattle.std.proofs.lemmas.List.{drop_more}
+use Rattle.std.proofs.lemmas.Bool.{cond-false}
 use Rattle.ht_tern.specs.declared.gate.Kind.{Kind}
 use Rattle.ht_net.specs.declared.net.NetId.{NetId}
 use Rattle.ht_net.specs.declared.fault.Site.{Site}
@@ -21,10 +22,6 @@ one_more gate env items i value next read inside is stands =
     stands rest ∙ (ap (λ v. gate (value ∷ v ∷ rest)) is
     ∙ ap (λ (l : List NetId). gate (value ∷ values_at env l)) (sym (drop_more items i no_net inside)))
 
-kept_pin : {V : Type 0} → (b : Bool) (v u : V) → b ≡ false → cond b v u ≡ u
-kept_pin true v u h = cc
-kept_pin false v u h = refl
-
 no_pin : (site : Site) (g i : ℕ) → is_pin_of site g ≡ false → is_pin site g i ≡ false
 no_pin (Stem x) g i h = refl
 no_pin (DffPin j) g i h = refl
@@ -35,7 +32,7 @@ pub plain_pin : {V : Type 0} → (stick : Bool → V → V) (fault : Option Faul
     → is_at_gate fault g ≡ false → forced stick fault (λ site. is_pin site g i) v ≡ v
 unfolding forced
 plain_pin stick None g i v h = refl
-plain_pin stick (Some f) g i v h = kept_pin (is_pin f.site g i) (stick f.value v) v (no_pin f.site g i h)
+plain_pin stick (Some f) g i v h = cond-false (is_pin f.site g i) (stick f.value v) v (no_pin f.site g i h)
 
 -- where no pin of a gate is stuck, its pins show the values of their nets
 pub plain_pins : {V : Type 0} → (blank : V) (gate : Kind → List V → V) (stick : Bool → V → V) (fault : Option Fault)

@@ -2,13 +2,13 @@
 use Rattle.std.proofs.Common.{◌≡◌, ◌+◌, ◌-◌, ◌∙◌, ℕ, suc, zero, List, [], ◌∷◌, ◌++◌, Bool, length, take, refl, sym, ap, arith, append_assoc, length-append}
 use Rattle.std.specs.Prelude.{flat_map}
 use Rattle.std.specs.List.{filter, range_with_len}
-use Rattle.std.proofs.lemmas.List.{append-nil, length-take, map-id}
-use Rattle.std.proofs.lemmas.List.FromFn.{map-range_with_len_more}
+use Rattle.std.proofs.lemmas.List.{append-nil, length-take}
 use Rattle.std.proofs.lemmas.List.Elements.{filter-append}
 use Rattle.std.proofs.lemmas.List.Concat.{flat_map-append}
 use Rattle.ht_tree.specs.declared.clause.Clause.{Clause}
 use Rattle.ht_tree.specs.Invariants.{max_clauses}
 use Rattle.ht_invariant.specs.Offers.{offered}
+use Rattle.ht_window.proofs.SeenLaws.{range_push}
 
 abbrev empty : (X : Type 0) → List X
 empty X = []
@@ -40,11 +40,6 @@ module _ (test : Clause → Bool) (kept : List Clause) where
       ∙ ap (λ (zs : List Clause). kept ++ zs)
       (ap (λ (k : ℕ). take room first ++ take k rest) left
       ∙ (sym (take_append room first rest) ∙ ap (take room) (sym (filter-append test xs ys))))
-
-range_push : (a n : ℕ) → range_with_len a (n + 1) ≡ range_with_len a n ++ (a + n) ∷ []
-range_push a n =
-    sym (map-id (range_with_len a (n + 1))) ∙ (map-range_with_len_more (λ (k : ℕ). k) a n (a + n) refl
-    ∙ ap (λ (l : List ℕ). l ++ (a + n) ∷ []) (map-id (range_with_len a n)))
 
 -- one more number of a range
 pub flat_range_more : {X : Type 0} → (f : ℕ → List X) (a n : ℕ)

@@ -1,9 +1,10 @@
 -- Nets whose sets follow the sources of a frame.
 use Rattle.std.specs.Prelude.{set}
 use Rattle.std.specs.List.{Contains}
-use Rattle.std.proofs.Common.{◌≡◌, ◌≢◌, ◌<◌, ◌≤◌, ◌+◌, ◌-◌, ◌∙◌, ℕ, List, [], ◌∷◌, Bool, true, false, Option, Some, None, cond, length, get_or, ap, sym, refl, subst, arith, inl, inr}
+use Rattle.std.proofs.Common.{◌≡◌, ◌≢◌, ◌<◌, ◌≤◌, ◌+◌, ◌-◌, ◌∙◌, ℕ, List, [], ◌∷◌, Bool, true, false, Option, Some, None, length, get_or, ap, sym, refl, subst, arith, inl, inr}
 use Rattle.std.proofs.lemmas.Bool.Decides.{eqb_tells}
 use Rattle.std.proofs.lemmas.List.{get_or-set_other, length-set}
+use Rattle.std.proofs.lemmas.Bool.{cond-false}
 use Rattle.ht_tern.specs.declared.tern.Tern.TheVariants.{Unk}
 use Rattle.ht_pairs.specs.Pairs.{Pair, pair, lifted_set, stuck_set}
 use Rattle.ht_net.specs.declared.fault.Site.{Site}
@@ -199,16 +200,12 @@ no_pins c (Stem x) g h = refl
 no_pins c (GatePin f i) g h = h
 no_pins c (DffPin j) g h = refl
 
-free : {V : Type 0} → (b : Bool) (v u : V) → b ≡ false → cond b v u ≡ u
-free true v u h = cc
-free false v u h = refl
-
 free_stem : (c : Netlist) (fault : Option Fault) (g : ℕ) (v : List Pair) → is_stuck_gate c fault g ≡ false
     → (pair_set_rules fault).stem (first_gate_net c + g) v ≡ v
 unfolding forced
 free_stem c None g v h = refl
 free_stem c (Some f) g v h =
-    free (is_stem f.site (first_gate_net c + g)) (stuck_set f.value v) v (no_stem c f.site g h)
+    cond-false (is_stem f.site (first_gate_net c + g)) (stuck_set f.value v) v (no_stem c f.site g h)
 
 free_pins : (c : Netlist) (fault : Option Fault) (g : ℕ) → is_stuck_gate c fault g ≡ false
     → is_at_gate fault g ≡ false

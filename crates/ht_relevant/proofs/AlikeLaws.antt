@@ -1,5 +1,6 @@
 -- Gates and lines that aren't stuck make alike sets of alike sets.
-use Rattle.std.proofs.Common.{◌≡◌, ◌∙◌, List, [], ◌∷◌, map, Bool, true, false, ◌||◌, ◌&&◌, Option, Some, None, sym, ap, inl, inr}
+use Rattle.std.proofs.Common.{◌≡◌, ◌∙◌, List, [], ◌∷◌, map, false, ◌||◌, Option, Some, None, sym, ap, inl, inr}
+use Rattle.std.proofs.lemmas.Bool.{and_left, and_right}
 use Rattle.std.specs.List.{list_any, list_all}
 use Rattle.ht_tern.specs.declared.tern.Tern.{Tern}
 use Rattle.ht_tern.specs.declared.tern.Tern.TheVariants.{Zero, One, Unk}
@@ -96,14 +97,6 @@ none_differs set h = by set (λ p m. h.alike p m) where
       let rest : list_any differs s ≡ false = by s (λ q m. k q (inr m)) in
       (λ i. here i || rest i)
 
-first_false : (a b : Bool) → a ≡ false → (a && b) ≡ false
-first_false true b k = cc
-first_false false b k = λ i. false
-
-second_false : (a b : Bool) → b ≡ false → (a && b) ≡ false
-second_false true b k = k
-second_false false b k = λ i. false
-
 -- not all pairs of an alike set differ
 pub not_all_differ : (set : List Pair) → IsAlike set → list_all differs set ≡ false
 not_all_differ set h = by set h.some h.member (h.alike h.some h.member) where
@@ -112,5 +105,5 @@ not_all_differ set h = by set h.some h.member (h.alike h.some h.member) where
   by (q ∷ s) p (inl m) e =
       let here : differs q ≡ false =
       ap differs (sym m) ∙ (ap (are_opposite p.good) (sym e) ∙ same_opposite p.good) in
-      first_false (differs q) (list_all differs s) here
-  by (q ∷ s) p (inr m) e = second_false (differs q) (list_all differs s) (by s p m e)
+      and_left (differs q) (list_all differs s) here
+  by (q ∷ s) p (inr m) e = and_right (differs q) (list_all differs s) (by s p m e)

@@ -1,5 +1,6 @@
 -- The normal text of a statement, token by token.
-use Rattle.std.proofs.Common.{◌≡◌, ℕ, Bool, true, cond, List, [], ◌∷◌, ◌++◌, length, Some, option_map, refl, ◌∙◌, ap, append_assoc, codes}
+use Rattle.std.proofs.Common.{◌≡◌, ℕ, true, List, [], ◌∷◌, ◌++◌, length, Some, option_map, refl, ◌∙◌, ap, append_assoc, codes}
+use Rattle.std.proofs.lemmas.Bool.{cond-true}
 use Rattle.std.specs.List.{list_all}
 use Rattle.ht_tern.specs.declared.gate.Kind.{Kind}
 use Rattle.ht_net.specs.Named.{Name}
@@ -68,14 +69,11 @@ definition_tokens out kind inside is is_kind =
 
 -- ---- readings
 
-cond_true : {A : Type 0} (b : Bool) (x y : A) → b ≡ true → cond b x y ≡ x
-cond_true b x y e = ap (λ t. cond t x y) e
-
 definition_read : (out : Name) (kind : List ℕ) (args : List Name) (element : Element) → list_all is_name (out ∷ args)
     ≡ true → element_named kind ≡ Some element
     → form_reading (definition_form out kind args) ≡ definition_reading out args (Some element)
 definition_read out kind args element are named =
-    cond_true (list_all is_name (out ∷ args)) (definition_reading out args (element_named kind)) (unreadable BadName)
+    cond-true (list_all is_name (out ∷ args)) (definition_reading out args (element_named kind)) (unreadable BadName)
     are
     ∙ ap (definition_reading out args) named
 
@@ -108,16 +106,16 @@ normal_reads blank_line can = refl
 normal_reads (input_line name) can =
     ap (λ t. tokens_reading (form_of t))
     (port_tokens (codes "INPUT") name refl (all_head name [] can.names))
-    ∙ cond_true (is_name name) (stated (input_line name)) (unreadable BadName) (all_head name [] can.names)
+    ∙ cond-true (is_name name) (stated (input_line name)) (unreadable BadName) (all_head name [] can.names)
 normal_reads (output_line name) can =
     ap (λ t. tokens_reading (form_of t))
     (port_tokens (codes "OUTPUT") name refl (all_head name [] can.names))
-    ∙ cond_true (is_name name) (stated (output_line name)) (unreadable BadName) (all_head name [] can.names)
+    ∙ cond-true (is_name name) (stated (output_line name)) (unreadable BadName) (all_head name [] can.names)
 normal_reads (dff_line out data_pin) can =
     ap reading_of (dff_text out data_pin) ∙ definition_line out (codes "DFF") (data_pin ∷ []) flip_flop can.names
     refl refl
 normal_reads (gate_line out kind args) can =
     ap reading_of (gate_text out kind args) ∙ definition_line out (kind_text kind) args (gate_of kind) can.names
     (kind_reads kind).0 (kind_reads kind).1
-    ∙ cond_true (has_count (gate_of kind) (length args)) (stated (gate_line out kind args)) (unreadable BadCount)
+    ∙ cond-true (has_count (gate_of kind) (length args)) (stated (gate_line out kind args)) (unreadable BadCount)
     can.count

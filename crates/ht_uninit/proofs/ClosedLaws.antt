@@ -37,7 +37,8 @@ held_closed c u walks = record {
       ∙ net_unknown c u (data_net c j) walk.0 walk.1 vector state wide held unknown;
 }
 
-unknown_refined : (a b : Tern) → Refines a b → a ≡ Unk → b ≡ Unk
+-- what an unknown value is refined by is unknown
+pub unknown_refined : (a b : Tern) → Refines a b → a ≡ Unk → b ≡ Unk
 unknown_refined a b (inl e) h = e
 unknown_refined a b (inr e) h = sym e ∙ h
 

@@ -3,7 +3,7 @@
 use Rattle.std.specs.Prelude.{eqb, ltb, leb, is_some, IsTrue, ◌==◌}
 use Rattle.std.specs.List.{list_all, range_with_len}
 use Rattle.std.proofs.Common.{◌≡◌, ◌⊎◌, ◌<◌, ◌≤◌, ◌+◌, ◌*◌, ℕ, List, [], ◌∷◌, ◌++◌, Bool, true, false, not, ◌&&◌, ◌||◌, cond, Option, Some, None, length, get_or, refl, sym, ◌∙◌, ap, inl, inr, arith, subst}
-use Rattle.std.proofs.lemmas.Bool.{and_parts, false_from_ne_true, false≢true, not_from_false, or_from}
+use Rattle.std.proofs.lemmas.Bool.{and_parts, false_from_ne_true, false≢true, not_from_false, or_from, not-true}
 use Rattle.std.proofs.lemmas.Bool.Decides.{eqb_tells, nat_tests}
 use Rattle.std.proofs.lemmas.List.Folds.{list_all-append, list_any-append}
 use Rattle.std.proofs.lemmas.List.FromFn.{get_or-map-range_with_len, length-map-range_with_len}
@@ -211,10 +211,6 @@ left_in c removed j l out =
     (member_filter (λ j. not (is_removed removed j)) (range_with_len 0 (length c.dffs)) j
     (member_range j 0 (length c.dffs) (omega arith) (omega (arith, l))) (not_from_false (is_removed removed j) out))
 
-not_true : (b : Bool) → not b ≡ true → b ≡ false
-not_true true h = cc
-not_true false h = refl
-
 -- a member of the set that is left is a flip-flop of the circuit and isn't removed
 pub in_left : (c : Netlist) (removed : List Removed) (j : ℕ) → is_in (held_after c removed) j ≡ true
     → (j < length c.dffs) × (is_removed removed j ≡ false)
@@ -222,7 +218,7 @@ in_left c removed j h =
     let kept = filter_member (λ j. not (is_removed removed j)) (range_with_len 0 (length c.dffs)) j
     (in_member j (held_after c removed) h) in
     let low = (range_member j 0 (length c.dffs) kept.0).1 in
-    (omega (arith, low), not_true (is_removed removed j) kept.1)
+    (omega (arith, low), not-true (is_removed removed j) kept.1)
 
 removed_push : (removed : List Removed) (r : Removed) (j : ℕ) → is_removed removed j ≡ false → ¬ (removed_dff r ≡ j)
     → is_removed (removed ++ r ∷ []) j ≡ false

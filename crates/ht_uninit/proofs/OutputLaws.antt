@@ -1,8 +1,9 @@
 -- The outputs, one after the other, and the hidden faults.
-use Rattle.std.proofs.Common.{◌≡◌, ◌<◌, ◌+◌, ℕ, suc, zero, List, [], ◌∷◌, ◌++◌, Bool, true, false, not, map, length, get_or, refl, sym, ◌∙◌, ap, inl, inr, arith, subst}
+use Rattle.std.proofs.Common.{◌≡◌, ◌<◌, ◌+◌, ℕ, suc, zero, List, [], ◌∷◌, ◌++◌, Bool, true, false, map, length, get_or, sym, ◌∙◌, ap, inl, inr, arith, subst}
 use Rattle.std.specs.Prelude.{◌↔◌}
 use Rattle.std.proofs.lemmas.Bool.Decides.{eqb_tells}
 use Rattle.std.proofs.lemmas.List.{get_or_append_left, get_or_push, length-map}
+use Rattle.std.proofs.lemmas.Bool.{not-true, not_from_false}
 use Rattle.ht_net.specs.declared.fault.Fault.{Fault}
 use Rattle.ht_net.specs.declared.net.NetId.{NetId}
 use Rattle.ht_net.specs.Netlist.{Netlist, net_count}
@@ -48,14 +49,6 @@ output_more c budget u count outs outs' out long push is all o x l at = elim (eq
       ∙ get_or_append_left outs (out ∷ []) x o (omega (arith, below, long))))
 ]
 
-not_false : (b : Bool) → not b ≡ true → b ≡ false
-not_false true h = cc
-not_false false h = refl
-
-not_true : (b : Bool) → b ≡ false → not b ≡ true
-not_true true h = cc
-not_true false h = refl
-
 -- which faults are hidden, by the marks
 hidden_at : (c : Netlist) (mute : ℕ → Bool) (marks : List Bool) → TellsHidden c mute marks → (faults : List Fault)
     (which : List ℕ) (i : ℕ) (fault : Fault) → i < length which
@@ -64,8 +57,8 @@ hidden_at : (c : Netlist) (mute : ℕ → Bool) (marks : List Bool) → TellsHid
     ↔ IsHidden c mute fault
 hidden_at c mute marks tells faults [] i fault l is = absurd (omega arith)
 hidden_at c mute marks tells faults (k ∷ which) zero fault l is = (
-  λ e. subst (IsHidden c mute) (sym is) ((tells (get_or faults k no_fault)).0 (not_false _ e)),
-  λ h. not_true _ ((tells (get_or faults k no_fault)).1 (subst (IsHidden c mute) is h)),
+  λ e. subst (IsHidden c mute) (sym is) ((tells (get_or faults k no_fault)).0 (not-true _ e)),
+  λ h. not_from_false _ ((tells (get_or faults k no_fault)).1 (subst (IsHidden c mute) is h)),
 )
 hidden_at c mute marks tells faults (k ∷ which) (suc i) fault l is =
     hidden_at c mute marks tells faults which i fault (omega (arith, l)) is

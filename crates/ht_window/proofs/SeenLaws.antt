@@ -97,7 +97,8 @@ module _ {X : Type 0} (test : X → Bool) where
       before ∙ (first_of_lists lists last k n inside ∙ ap (λ (o : Option X). option_or o rest) (sym is)) in
       (λ some. step ∙ some_or here rest some, λ none. step ∙ none_or here rest none)
 
-range_push : (a n : ℕ) → range_with_len a (n + 1) ≡ range_with_len a n ++ (a + n) ∷ []
+-- a range of one more number ends with it
+pub range_push : (a n : ℕ) → range_with_len a (n + 1) ≡ range_with_len a n ++ (a + n) ∷ []
 range_push a n = let e : n + 1 ≡ suc n = omega arith in ap (range_with_len a) e ∙ by a n
   where
     by : (a n : ℕ) → range_with_len a (suc n) ≡ range_with_len a n ++ (a + n) ∷ []
