@@ -29,7 +29,7 @@ pub use Rattle.ht_inputs.specs.Judging.{ReportIsRead, check_basis}
 pub use Rattle.ht_inputs.specs.Reading.{EndsReading, HasReadTo}
 pub use Rattle.ht_inputs.specs.declared.run_error.RunError.{RunError}
 pub use Rattle.ht_inputs.specs.declared.run_error.RunError.TheVariants.{Usage, WriteFault}
-pub use Rattle.ht_net.specs.Rows.{Rows}
+pub use Rattle.ht_net.specs.Frames.Rows.{Rows}
 pub use Rattle.ht_ports.proofs.CallLaws.{after_trans}
 pub use Rattle.ht_ports.specs.Desk.{Created, DeskView, IsFilePort, IsOtherName, NotCreated, OutCall, Writes}
 pub use Rattle.ht_ports.specs.LineRule.{max_text_bytes}

@@ -4,7 +4,7 @@ use Rattle.std.specs.Prelude.{Result, Ok, Err, Some, None}
 use Rattle.ht_app.proofs.Common.{AcceptsInputs, AreClasses, AreFinished, Asked, ChangedOnly, DeskView, Does, EndsJob}
 use Rattle.ht_app.proofs.Common.{EngineStandsFor, EngineView, HasSameWork, Out, RunError, Settings, Step, Tries, demo}
 use Rattle.ht_app.proofs.Common.{demo_netlist, put, reading, with_lf}
-use Rattle.ht_net.specs.Netlist as net
+use Rattle.ht_net.specs.Circuit.Netlist as net
 use Rattle.ht_texts.specs.Reports.{head_line}
 use Rattle.ht_files.specs.Generated.{IsTotalOf}
 use Rattle.ht_inputs.specs.declared.run_error.RunError.TheVariants.{NoMemory}

@@ -12,7 +12,7 @@ use Rattle.ht_app.proofs.Common.{input_name, line_text, makes, max_text_bytes, o
 use Rattle.ht_app.proofs.Common.{put, reading, step_acts, tests_of, with_lf, writing}
 use Rattle.ht_ports.specs.declared.ports.InPort.TheVariants as in_port
 use Rattle.ht_ports.specs.declared.ports.OutPort.TheVariants.{Tests, Report, Proofs}
-use Rattle.ht_net.specs.Netlist as net
+use Rattle.ht_net.specs.Circuit.Netlist as net
 use Rattle.ht_texts.specs.SearchReports.{HasPlainNames}
 use Rattle.ht_entries.specs.declared.proof_line.ProofLine.TheVariants.{End}
 use Rattle.ht_files.proofs.StepTextLaws.{proofs_end}

@@ -7,7 +7,7 @@ use Rattle.ht_app.proofs.Common.{Act, AreFinished, AreSteps, DeskView, EngineVie
 use Rattle.ht_app.proofs.Common.{Makes, Rows, RunError, Settings, Sizes, StandsAt, Step, Tries, Vectors, WritesOn}
 use Rattle.ht_app.proofs.Common.{max_text_bytes, proofs_so_far, put, step_acts, tests_of}
 use Rattle.ht_ports.specs.declared.ports.OutPort.TheVariants.{Tests, Proofs}
-use Rattle.ht_net.specs.Netlist as net
+use Rattle.ht_net.specs.Circuit.Netlist as net
 use Rattle.ht_tree.specs.declared.entry.Entry as recorded
 use Rattle.ht_engine.specs.Steps.{one_more}
 use Rattle.ht_engine.specs.EngineStands.{MakesStep}

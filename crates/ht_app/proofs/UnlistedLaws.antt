@@ -4,7 +4,7 @@ use Rattle.std.specs.Prelude.{Option, Some, None, ℕ, List}
 use Rattle.ht_app.proofs.Common.{AcceptsInputs, Act, Asked, DeskView, HasCause, JobBasis, MakesOutput, RunError}
 use Rattle.ht_app.proofs.Common.{WriteFault, exit_status, respond}
 use Rattle.ht_ports.specs.declared.ports.InPort.TheVariants.{Netlist}
-use Rattle.ht_net.specs.Netlist as net
+use Rattle.ht_net.specs.Circuit.Netlist as net
 use Rattle.ht_net.specs.declared.fault.Fault.{Fault}
 use Rattle.ht_inputs.specs.declared.run_error.RunError.TheVariants.{NoMemory}
 use Rattle.ht_inputs.specs.Inputs.{HasFault, IsListed}

@@ -2,8 +2,8 @@
 use Rattle.std.specs.Prelude.{◌≡◌, ◌-◌, ◌++◌, ◌∷◌, ℕ, List, [], flat_map, codes, Some, Option, None, Bool, true, false, length, option_map}
 use Rattle.ht_ports.specs.declared.ports.OutPort.{OutPort}
 use Rattle.ht_ports.specs.declared.ports.OutPort.TheVariants.{Tests, Report, Proofs, Out}
-use Rattle.ht_net.specs.Netlist as net
-use Rattle.ht_net.specs.Detection.{unknown_state}
+use Rattle.ht_net.specs.Circuit.Netlist as net
+use Rattle.ht_net.specs.Detect.Detection.{unknown_state}
 use Rattle.ht_bench.specs.Normal.{normal_text}
 use Rattle.ht_texts.specs.Lines.{with_lf}
 use Rattle.ht_texts.specs.Reports.{head_line, report_text, report_sums, total_line}
@@ -36,7 +36,7 @@ use Rattle.ht_app.specs.Acts.{Act, make, put}
 use Rattle.ht_inputs.specs.Inputs.{IsListed, JobBasis}
 use Rattle.ht_net.specs.declared.fault.Fault.{Fault}
 use Rattle.ht_net.specs.declared.place.Place.{Place}
-use Rattle.ht_net.specs.Netlist.{Netlist}
+use Rattle.ht_net.specs.Circuit.Netlist.{Netlist}
 use Rattle.ht_proofs.specs.Detections.{AreFirstDetections}
 use Rattle.ht_texts.specs.declared.said.Said.{Said}
 use Rattle.ht_texts.specs.Verdicts.{saids_of}

@@ -3,7 +3,7 @@
 //! `create` makes the three files, and `fill` writes them: `sizes` begins the proofs, `steps` writes the engine's steps,
 //! and the report comes last.
 ghost use Rattle.std.specs.Prelude.{◌≡◌, ◌≤◌};
-ghost use Rattle.ht_net.specs.Detection.{IsStart};
+ghost use Rattle.ht_net.specs.Detect.Detection.{IsStart};
 ghost use Rattle.ht_faults.specs.Sites.{faults_of};
 ghost use Rattle.ht_faults.specs.Classes.{AreClasses};
 ghost use Rattle.ht_texts.specs.SearchReports.{HasPlainNames};

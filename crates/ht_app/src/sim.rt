@@ -2,7 +2,7 @@
 ghost use Rattle.std.specs.Prelude.{◌≡◌, ◌≤◌, ◌++◌, List, ℕ, length, IfOk};
 ghost use Rattle.ht_ports.specs.LineRule.{max_text_bytes};
 ghost use Rattle.ht_ports.specs.declared.ports.OutPort.TheVariants as out_port;
-ghost use Rattle.ht_net.specs.Detection.{IsStart};
+ghost use Rattle.ht_net.specs.Detect.Detection.{IsStart};
 ghost use Rattle.ht_asked.specs.Asked as asked;
 ghost use Rattle.ht_app.specs.Outputs.{IsReportOf, file_acts};
 ghost use Rattle.ht_app.specs.Steps.{Prepares};

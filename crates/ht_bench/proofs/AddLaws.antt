@@ -1,8 +1,8 @@
 -- What settles whether a statement is added to a draft.
 use Rattle.std.proofs.Common.{◌≡◌, [], ◌∷◌, ◌++◌, Contains}
 use Rattle.std.proofs.lemmas.Bool.{cond_both, both_ways}
-use Rattle.ht_net.specs.Named.{Name}
-use Rattle.ht_net.specs.Draft.{Draft}
+use Rattle.ht_net.specs.Build.Named.{Name}
+use Rattle.ht_net.specs.Build.Draft.{Draft}
 use Rattle.ht_bench.specs.Different.{has_name, with_name}
 use Rattle.ht_bench.proofs.NameListLaws.{has_name-Decides}
 

@@ -4,7 +4,7 @@ use Rattle.std.specs.List.{All, Contains, flat_map, list_all}
 use Rattle.std.proofs.lemmas.List.{length-append, get_or_append_left}
 use Rattle.std.proofs.lemmas.List.Elements.{All-nil, All-head, All-tail, All-append, All-weaker, All-contains_itself}
 use Rattle.std.proofs.lemmas.List.Sums.{AllPass-from_list_all}
-use Rattle.ht_net.specs.Named.{Name}
+use Rattle.ht_net.specs.Build.Named.{Name}
 use Rattle.ht_statement.specs.Name.{is_name}
 
 -- ---- tests of each member

@@ -1,11 +1,11 @@
 -- Gates that form a cycle are those of no circuit.
 use Rattle.std.proofs.Common.{◌≡◌, ℕ, zero, suc, ◌<◌, ◌≤◌, ◌+◌, ◌-◌, List, [], length, get_or, map, sym, ◌∙◌, ap, subst, arith, Contains}
 use Rattle.std.proofs.lemmas.List.{length-map, get_or-map, get_or_default}
-use Rattle.ht_net.specs.Lists.{IsCycle}
-use Rattle.ht_net.specs.Netlist.{Netlist, IsCircuit, first_gate_net, gate_at, arg_at, no_net}
-use Rattle.ht_net.specs.Named.{Name, NamedGate, name_of, named_of}
+use Rattle.ht_net.specs.Circuit.Lists.{IsCycle}
+use Rattle.ht_net.specs.Circuit.Netlist.{Netlist, IsCircuit, first_gate_net, gate_at, arg_at, no_net}
+use Rattle.ht_net.specs.Build.Named.{Name, NamedGate, name_of, named_of}
 use Rattle.ht_net.proofs.CycleLaws.{no_cycle}
-use Rattle.ht_net.specs.Finish.{Feeds}
+use Rattle.ht_net.specs.Build.Finish.{Feeds}
 use Rattle.ht_bench.proofs.NamedPartLaws.{gate_named, named_gates_count, get_or-named_gates}
 use Rattle.ht_net.proofs.NameCycleLaws.{no_named_gate}
 use Rattle.ht_net.proofs.PlaceLaws.{place_in, place_at}

@@ -3,11 +3,11 @@ use Rattle.std.proofs.Common.{arith, ◌≡◌, List, [], ◌∷◌, ◌||◌, s
 use Rattle.std.proofs.Math.Bool.{or-false}
 use Rattle.std.proofs.lemmas.List.{map-append}
 use Rattle.std.proofs.lemmas.List.Folds.{list_any-append}
-use Rattle.ht_net.specs.Named.{Name, NamedNetlist}
+use Rattle.ht_net.specs.Build.Named.{Name, NamedNetlist}
 use Rattle.ht_statement.specs.Statement.{Statement, blank_line, input_line, output_line, dff_line, gate_line}
 use Rattle.ht_bench.specs.Different.{has_name}
 use Rattle.ht_bench.specs.Contents.{no_parts, with_statement, named_of_statements, driven_in, driven_by}
-use Rattle.ht_net.specs.Draft.{net_names}
+use Rattle.ht_net.specs.Build.Draft.{net_names}
 
 module _ (name : Name) where
   driver_more : (n : NamedNetlist) (s : Statement) → has_name (net_names (with_statement n s)) name

@@ -6,10 +6,10 @@ use Rattle.std.proofs.lemmas.List.Folds.{find_at}
 use Rattle.std.proofs.lemmas.List.Sums.{position_or_len_is}
 use Rattle.std.proofs.lemmas.Option.{slice_get_past, slice_get-get_or}
 use Rattle.ht_net.specs.declared.names.NameId.{NameId}
-use Rattle.ht_net.specs.Netlist.{Netlist, IsCircuit}
-use Rattle.ht_net.specs.Named.{Name, named_of}
-use Rattle.ht_net.specs.Draft.{Draft, IsDriven, IsName, draft_name, named_draft, driven_names}
-use Rattle.ht_net.specs.Built.{AllDriven, IsLeastUndriven}
+use Rattle.ht_net.specs.Circuit.Netlist.{Netlist, IsCircuit}
+use Rattle.ht_net.specs.Build.Named.{Name, named_of}
+use Rattle.ht_net.specs.Build.Draft.{Draft, IsDriven, IsName, draft_name, named_draft, driven_names}
+use Rattle.ht_net.specs.Build.Built.{AllDriven, IsLeastUndriven}
 use Rattle.ht_bench.specs.Different.{has_name}
 use Rattle.ht_bench.specs.Contents.{driven_by, mentions_of, stated_nets, named_of_statements}
 use Rattle.ht_bench.specs.EndOfText.{first_undriven}

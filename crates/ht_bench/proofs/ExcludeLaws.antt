@@ -1,8 +1,8 @@
 -- What a refusal of a text excludes: a circuit, and another refusal.
 use Rattle.std.proofs.Common.{subst, ◌≡◌, ℕ, List, sym, ◌∙◌, ap, Option, Some, None}
-use Rattle.ht_net.specs.Finish.{IsNameCycle}
-use Rattle.ht_net.specs.Named.{Name, NamedNetlist}
-use Rattle.ht_net.specs.Netlist.{Netlist}
+use Rattle.ht_net.specs.Build.Finish.{IsNameCycle}
+use Rattle.ht_net.specs.Build.Named.{Name, NamedNetlist}
+use Rattle.ht_net.specs.Circuit.Netlist.{Netlist}
 use Rattle.ht_bench.specs.Contents.{named_of_statements}
 use Rattle.ht_bench.specs.Text.{IsNetlistOf, IsLoop, Refuses, IsOfNoCircuit, refusal_of}
 use Rattle.ht_bench.specs.TextRefusal.{text_refusal_of}

@@ -4,9 +4,9 @@ use Rattle.std.proofs.lemmas.Grind.{common_steps}
 use Rattle.std.proofs.lemmas.List.{get_or_append_left, length-append}
 use Rattle.std.proofs.lemmas.List.Elements.{All-head, All-tail, All-weaker, All-contains}
 use Rattle.ht_net.specs.declared.names.NameId.{NameId}
-use Rattle.ht_net.specs.Names.{IsNameAt}
-use Rattle.ht_net.specs.Named.{Name}
-use Rattle.ht_net.specs.Draft.{IsName, Draft, IsDraft, IsDriven, draft_name, driven_names}
+use Rattle.ht_net.specs.Build.Names.{IsNameAt}
+use Rattle.ht_net.specs.Build.Named.{Name}
+use Rattle.ht_net.specs.Build.Draft.{IsName, Draft, IsDraft, IsDriven, draft_name, driven_names}
 use Rattle.ht_bench.specs.Different.{has_name}
 use Rattle.ht_bench.specs.Drafts.{Mentions}
 use Rattle.ht_bench.proofs.NameListLaws.{new_name, has_new_name, with_names-long, with_names-grow, has_name-Decides}

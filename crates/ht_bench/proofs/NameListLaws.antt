@@ -2,12 +2,12 @@
 use Rattle.std.proofs.Common.{◌≡◌, List, [], length, get_or, sym, ◌∙◌, ap, arith, refl, ◌≤◌, ◌-◌, ◌∷◌, ◌++◌, false, subst, append-nil, append_assoc, All, Contains, bytes_eq, Decides, ◌≢◌, ◌+◌}
 use Rattle.std.proofs.lemmas.Bool.{false_from_ne_true, both_ways, cond_both, cond-false}
 use Rattle.std.proofs.lemmas.Slice.Eq.{bytes_eq-Decides}
-use Rattle.ht_net.specs.Lists.{AllDiffer}
-use Rattle.ht_net.specs.Named.{Name}
+use Rattle.ht_net.specs.Circuit.Lists.{AllDiffer}
+use Rattle.ht_net.specs.Build.Named.{Name}
 use Rattle.std.proofs.lemmas.List.{get_or_append_left, get_or-append_right, get_or_default, length-append}
 use Rattle.std.proofs.lemmas.List.Folds.{Any-from_list_any, list_any-from_Any}
 use Rattle.std.proofs.lemmas.List.Elements.{All-push, All-head, All-tail, All-nil}
-use Rattle.ht_net.specs.Names.{IsNewName}
+use Rattle.ht_net.specs.Build.Names.{IsNewName}
 use Rattle.ht_bench.specs.Different.{has_name, with_name, with_names, different}
 use Rattle.std.proofs.lemmas.List.Quantifiers.{all_pairs_push}
 use Rattle.ht_net.proofs.PlaceLaws.{no_more}

@@ -3,10 +3,10 @@ use Rattle.std.proofs.Common.{◌≡◌, ℕ, zero, suc, ◌+◌, ◌<◌, List,
 use Rattle.std.proofs.lemmas.List.{get_or-map}
 use Rattle.std.proofs.lemmas.List.Elements.{All-from_get_or}
 use Rattle.ht_net.specs.declared.net.NetId.{NetId}
-use Rattle.ht_net.specs.Netlist.{Netlist, Gate, no_net, no_gate}
-use Rattle.ht_net.specs.Draft.{dff_outs, gate_outs}
+use Rattle.ht_net.specs.Circuit.Netlist.{Netlist, Gate, no_net, no_gate}
+use Rattle.ht_net.specs.Build.Draft.{dff_outs, gate_outs}
 use Rattle.ht_net.proofs.NameCycleLaws.{no_named_gate}
-use Rattle.ht_net.specs.Named.{NamedDff, NamedGate, name_of, named_dffs, named_gates}
+use Rattle.ht_net.specs.Build.Named.{NamedDff, NamedGate, name_of, named_dffs, named_gates}
 
 -- ---- lists whose members are numbered from a start on
 

@@ -2,11 +2,11 @@
 use Rattle.std.proofs.Common.{◌≡◌, ℕ, ◌<◌, List, [], length, get_or, map, sym, ◌∙◌, ap, subst, arith}
 use Rattle.std.proofs.lemmas.List.{length-map, get_or-map}
 use Rattle.ht_net.specs.declared.names.NameId.{NameId}
-use Rattle.ht_net.specs.Lists.{AllDiffer}
-use Rattle.ht_net.specs.Named.{NamedNetlist}
-use Rattle.ht_net.specs.Draft.{Draft, IsName, draft_name}
-use Rattle.ht_net.specs.Built.{AllDriven}
-use Rattle.ht_net.specs.Finish.{IsNameCycle, IsDraftLoop, no_name}
+use Rattle.ht_net.specs.Circuit.Lists.{AllDiffer}
+use Rattle.ht_net.specs.Build.Named.{NamedNetlist}
+use Rattle.ht_net.specs.Build.Draft.{Draft, IsName, draft_name}
+use Rattle.ht_net.specs.Build.Built.{AllDriven}
+use Rattle.ht_net.specs.Build.Finish.{IsNameCycle, IsDraftLoop, no_name}
 use Rattle.ht_net.proofs.PlaceLaws.{place_in, place_at}
 use Rattle.ht_bench.specs.Contents.{mention_rank, mentions_of}
 use Rattle.ht_bench.specs.EndOfText.{IsNetCycle}

@@ -3,8 +3,8 @@
 use Rattle.std.proofs.Common.{◌≡◌, ℕ, List, [], ◌∷◌, true, map, refl, sym, ap, ◌∙◌, All}
 use Rattle.std.proofs.lemmas.List.Elements.{All-nil, All-cons, All-weaker, All-contains}
 use Rattle.std.proofs.lemmas.List.Sums.{list_all-from_AllPass, AllPass-from_list_all}
-use Rattle.ht_net.specs.Netlist.{Netlist, IsCircuit}
-use Rattle.ht_net.specs.Named.{Name, named_of}
+use Rattle.ht_net.specs.Circuit.Netlist.{Netlist, IsCircuit}
+use Rattle.ht_net.specs.Build.Named.{Name, named_of}
 use Rattle.ht_ports.specs.LineRule.{lines_of}
 use Rattle.ht_statement.specs.Name.{is_name}
 use Rattle.ht_statement.specs.Statement.{Statement, output_line, dff_line, gate_line, names_in}
@@ -20,7 +20,7 @@ use Rattle.ht_bench.specs.declared.error.BenchError.TheVariants.{NoMemory}
 use Rattle.ht_bench.proofs.AllLaws.{All-left, all_from, AreNames, All-flat_map}
 use Rattle.ht_bench.proofs.NameListLaws.{has_name-Decides}
 use Rattle.ht_bench.proofs.DriverLaws.{drivers_are}
-use Rattle.ht_net.specs.Draft.{net_names}
+use Rattle.ht_net.specs.Build.Draft.{net_names}
 use Rattle.ht_bench.proofs.NormalRoundLaws.{normal_is_netlist}
 use Rattle.ht_bench.proofs.NormalContentLaws.{driven_are}
 use Rattle.ht_bench.proofs.NormalNameLaws.{driven_are_names}

@@ -3,16 +3,16 @@ use Rattle.std.proofs.Common.{map-id, ◌≡◌, List, [], ◌∷◌, ◌++◌, 
 use Rattle.std.proofs.lemmas.List.Concat.{flat_map-append, flat_map_single}
 use Rattle.std.proofs.lemmas.List.Folds.{flat_map-map}
 use Rattle.std.proofs.lemmas.List.Sums.{fold-append}
-use Rattle.ht_net.specs.Named.{Name, NamedDff, NamedGate, NamedNetlist, name_of, named_of}
+use Rattle.ht_net.specs.Build.Named.{Name, NamedDff, NamedGate, NamedNetlist, name_of, named_of}
 use Rattle.ht_statement.specs.Statement.{input_line, output_line, Statement, names_in}
 use Rattle.ht_bench.specs.Different.{with_name, with_names, different}
 use Rattle.ht_bench.specs.Contents.{with_statement, named_of_statements, driven_by}
 use Rattle.ht_bench.specs.Normal.{dff_statement, gate_statement, named_statements, statements_of}
 use Rattle.ht_bench.proofs.NamedPartLaws.{All-named_dffs, All-named_gates}
-use Rattle.ht_net.specs.Draft.{net_names}
+use Rattle.ht_net.specs.Build.Draft.{net_names}
 use Rattle.std.proofs.lemmas.List.{length-map}
 use Rattle.std.proofs.lemmas.List.Elements.{All-nil, All-cons, All-append, All-map, All-take, All-weaker, All-contains_itself, All-from_get_or, Contains-get_or}
-use Rattle.ht_net.specs.Netlist.{Netlist, IsCircuit, first_gate_net, net_count, gate_at, no_net}
+use Rattle.ht_net.specs.Circuit.Netlist.{Netlist, IsCircuit, first_gate_net, net_count, gate_at, no_net}
 use Rattle.ht_statement.specs.StatementText.{has_its_count}
 use Rattle.ht_statement.proofs.StatedLaws.{arity_is_count}
 

@@ -3,11 +3,11 @@ use Rattle.std.proofs.Common.{◌≡◌, ℕ, suc, ◌+◌, ◌<◌, ◌≤◌, 
 use Rattle.std.proofs.lemmas.List.{length-map, take_all, get_or-map, take_more}
 use Rattle.std.proofs.lemmas.List.Sums.{sum_by-cons}
 use Rattle.ht_net.specs.declared.net.NetId.{NetId}
-use Rattle.ht_net.specs.Lists.{AllDiffer}
-use Rattle.ht_net.specs.Netlist.{Netlist, Gate, IsCircuit, first_gate_net, pin_count, no_net}
-use Rattle.ht_net.specs.Named.{Name, NamedDff, NamedGate, name_of, named_gates, named_of}
+use Rattle.ht_net.specs.Circuit.Lists.{AllDiffer}
+use Rattle.ht_net.specs.Circuit.Netlist.{Netlist, Gate, IsCircuit, first_gate_net, pin_count, no_net}
+use Rattle.ht_net.specs.Build.Named.{Name, NamedDff, NamedGate, name_of, named_gates, named_of}
 use Rattle.ht_bench.specs.Contents.{driven_by, named_of_statements}
-use Rattle.ht_net.specs.Draft.{named_pins, dff_outs, gate_outs}
+use Rattle.ht_net.specs.Build.Draft.{named_pins, dff_outs, gate_outs}
 use Rattle.ht_bench.specs.Normal.{statements_of}
 use Rattle.ht_bench.proofs.NameListLaws.{with_names-differ}
 use Rattle.ht_net.proofs.PlaceLaws.{one_place}

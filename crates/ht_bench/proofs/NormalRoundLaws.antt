@@ -5,9 +5,9 @@ use Rattle.std.proofs.lemmas.Bool.Decides.{nat_tests}
 use Rattle.std.proofs.lemmas.List.Concat.{flat_map-append}
 use Rattle.std.proofs.lemmas.List.Sums.{fold-append, sum_by_push, list_all-from_AllPass, AllPass-from_list_all}
 use Rattle.std.proofs.lemmas.List.Elements.{All-nil, All-head, All-tail, All-weaker, All-contains, Contains-append_left, Contains-get_or}
-use Rattle.ht_net.specs.Lists.{AllDiffer}
-use Rattle.ht_net.specs.Netlist.{max_nets, max_pins, max_inputs, max_dffs, Netlist, IsCircuit}
-use Rattle.ht_net.specs.Named.{Name, NamedGate, NamedNetlist, named_of}
+use Rattle.ht_net.specs.Circuit.Lists.{AllDiffer}
+use Rattle.ht_net.specs.Circuit.Netlist.{max_nets, max_pins, max_inputs, max_dffs, Netlist, IsCircuit}
+use Rattle.ht_net.specs.Build.Named.{Name, NamedGate, NamedNetlist, named_of}
 use Rattle.ht_statement.specs.Name.{is_name}
 use Rattle.ht_statement.specs.Statement.{Statement, names_in}
 use Rattle.ht_statement.specs.Reading.{stated, reading_of}
@@ -15,7 +15,7 @@ use Rattle.ht_statement.specs.StatementText.{statement_text, CanBeStated}
 use Rattle.ht_statement.proofs.StatementTextLaws.{normal_reads}
 use Rattle.ht_bench.specs.Different.{has_name}
 use Rattle.ht_bench.specs.Contents.{no_parts, with_statement, named_of_statements, driven_in, driven_by, mentions_of, stated_nets}
-use Rattle.ht_net.specs.Draft.{named_pins}
+use Rattle.ht_net.specs.Build.Draft.{named_pins}
 use Rattle.ht_bench.specs.Accepted.{limit_passed_by, limit_passed, second_driver, reading_error}
 use Rattle.ht_bench.specs.Role.{line_of}
 use Rattle.ht_bench.specs.EndOfText.{undriven_refusal}

@@ -2,14 +2,14 @@
 use Rattle.std.proofs.Common.{◌≡◌, ℕ, ◌<◌, ◌+◌, List, [], ◌∷◌, length, get_or, map, refl, sym, ◌∙◌, ap, arith, length-take-le, All}
 use Rattle.std.proofs.lemmas.List.Elements.{All-head, All-tail, All-from_get_or}
 use Rattle.ht_net.specs.declared.net.NetId.{NetId}
-use Rattle.ht_net.specs.Netlist.{Netlist, Gate, IsCircuit, first_gate_net, no_gate, no_net}
-use Rattle.ht_net.specs.Named.{Name, NamedDff, NamedGate, name_of, named_dffs, named_gates, named_of}
+use Rattle.ht_net.specs.Circuit.Netlist.{Netlist, Gate, IsCircuit, first_gate_net, no_gate, no_net}
+use Rattle.ht_net.specs.Build.Named.{Name, NamedDff, NamedGate, name_of, named_dffs, named_gates, named_of}
 use Rattle.ht_bench.specs.Contents.{named_of_statements}
 use Rattle.ht_bench.specs.Text.{IsNetlistOf}
 use Rattle.ht_net.proofs.PlaceLaws.{place_in, place_at}
 use Rattle.ht_bench.proofs.StatedLaws.{same_statements}
-use Rattle.ht_net.specs.Draft.{net_names}
-use Rattle.ht_net.specs.Built.{net_of, circuit_of}
+use Rattle.ht_net.specs.Build.Draft.{net_names}
+use Rattle.ht_net.specs.Build.Built.{net_of, circuit_of}
 use Rattle.ht_bench.proofs.NormalContentLaws.{driven_are}
 use Rattle.ht_bench.proofs.NormalNameLaws.{driven_are_names}
 

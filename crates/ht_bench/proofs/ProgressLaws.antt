@@ -5,8 +5,8 @@ use Rattle.std.proofs.lemmas.List.{map-append, length-append}
 use Rattle.std.proofs.lemmas.List.Sums.{fold-append}
 use Rattle.ht_ports.specs.LineRule.{lines_of}
 use Rattle.ht_net.specs.declared.error.Limit.{Limit as NetLimit}
-use Rattle.ht_net.specs.Named.{Name}
-use Rattle.ht_net.specs.Draft.{net_names, Draft, driven_names}
+use Rattle.ht_net.specs.Build.Named.{Name}
+use Rattle.ht_net.specs.Build.Draft.{net_names, Draft, driven_names}
 use Rattle.ht_statement.specs.Statement.{Statement}
 use Rattle.ht_statement.specs.Reading.{stated, reading_of}
 use Rattle.ht_bench.specs.Different.{has_name}

@@ -2,13 +2,13 @@
 use Rattle.std.specs.Prelude.{ℕ, List, [], ◌∷◌, ◌++◌, length, cond, ltb, find, Option, Some, None, option_map}
 use Rattle.ht_net.specs.declared.error.Limit.{Limit as NetLimit}
 use Rattle.ht_net.specs.declared.error.Limit.TheVariants.{Nets, Pins, Inputs, Dffs}
-use Rattle.ht_net.specs.Named.{Name}
-use Rattle.ht_net.specs.Netlist.{max_nets, max_pins, max_inputs, max_dffs}
+use Rattle.ht_net.specs.Build.Named.{Name}
+use Rattle.ht_net.specs.Circuit.Netlist.{max_nets, max_pins, max_inputs, max_dffs}
 use Rattle.ht_statement.specs.Statement.{Statement}
 use Rattle.ht_statement.specs.Reading.{Reading, stated, unreadable}
 use Rattle.ht_bench.specs.Different.{has_name}
 use Rattle.ht_bench.specs.Contents.{driven_in, driven_by, stated_nets, named_of_statements}
-use Rattle.ht_net.specs.Draft.{named_pins}
+use Rattle.ht_net.specs.Build.Draft.{named_pins}
 use Rattle.ht_bench.specs.declared.add_error.AddError.{AddError}
 use Rattle.ht_bench.specs.declared.add_error.AddError.TheVariants.{Refused, SecondDriver, Limit}
 

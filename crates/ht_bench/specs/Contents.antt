@@ -3,7 +3,7 @@
 use Rattle.std.specs.Prelude.{ℕ, List, [], ◌∷◌, ◌++◌, flat_map, fold}
 use Rattle.std.specs.List.{position_or_len}
 use Rattle.std.specs.Str.{bytes_eq}
-use Rattle.ht_net.specs.Named.{Name, NamedNetlist}
+use Rattle.ht_net.specs.Build.Named.{Name, NamedNetlist}
 use Rattle.ht_statement.specs.Statement.{Statement, blank_line, input_line, output_line, dff_line, gate_line, names_in}
 use Rattle.ht_bench.specs.Different.{with_name, different}
 

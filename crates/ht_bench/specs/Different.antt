@@ -2,7 +2,7 @@
 use Rattle.std.specs.Prelude.{List, [], ◌∷◌, ◌++◌, Bool, cond, fold}
 use Rattle.std.specs.List.{list_any}
 use Rattle.std.specs.Str.{bytes_eq}
-use Rattle.ht_net.specs.Named.{Name}
+use Rattle.ht_net.specs.Build.Named.{Name}
 
 -- the name is one of these
 abbrev pub has_name : List Name → Name → Bool

@@ -4,10 +4,10 @@ use Rattle.ht_tern.specs.Gate.{HasArity}
 use Rattle.ht_net.specs.declared.names.NameId.{NameId}
 use Rattle.ht_net.specs.declared.error.Limit.{Limit as NetLimit}
 use Rattle.ht_net.specs.declared.error.Limit.TheVariants.{Nets}
-use Rattle.ht_net.specs.Names.{IsNameAt}
-use Rattle.ht_net.specs.Named.{Name, NamedNetlist}
-use Rattle.ht_net.specs.Draft.{Draft, IsDraft, named_draft, draft_pins, driven_names}
-use Rattle.ht_net.specs.Netlist.{max_nets, max_arguments}
+use Rattle.ht_net.specs.Build.Names.{IsNameAt}
+use Rattle.ht_net.specs.Build.Named.{Name, NamedNetlist}
+use Rattle.ht_net.specs.Build.Draft.{Draft, IsDraft, named_draft, draft_pins, driven_names}
+use Rattle.ht_net.specs.Circuit.Netlist.{max_nets, max_arguments}
 use Rattle.ht_statement.specs.Statement.{Statement, gate_line, names_in}
 use Rattle.ht_statement.specs.Reading.{stated, reading_of}
 use Rattle.ht_bench.specs.Different.{has_name, with_names}

@@ -1,7 +1,7 @@
 -- What is judged after the last line: nets that no line drives, and cycles of gates.
 use Rattle.std.specs.Prelude.{ℕ, ◌<◌, ◌≤◌, List, [], length, get_or, not, find, Option, option_map}
-use Rattle.ht_net.specs.Finish.{IsNameCycle}
-use Rattle.ht_net.specs.Named.{Name}
+use Rattle.ht_net.specs.Build.Finish.{IsNameCycle}
+use Rattle.ht_net.specs.Build.Named.{Name}
 use Rattle.ht_statement.specs.Statement.{Statement}
 use Rattle.ht_bench.specs.Different.{has_name}
 use Rattle.ht_bench.specs.Contents.{driven_by, stated_nets, named_of_statements, mention_rank}

@@ -1,8 +1,8 @@
 -- The normal text of a circuit (ISCAS-89 format).
 use Rattle.std.specs.Prelude.{◌≡◌, ℕ, true, List, ◌++◌, map}
 use Rattle.std.specs.List.{flat_map, list_all}
-use Rattle.ht_net.specs.Netlist.{Netlist}
-use Rattle.ht_net.specs.Named.{NamedDff, NamedGate, NamedNetlist, named_of}
+use Rattle.ht_net.specs.Circuit.Netlist.{Netlist}
+use Rattle.ht_net.specs.Build.Named.{NamedDff, NamedGate, NamedNetlist, named_of}
 use Rattle.ht_statement.specs.Name.{is_name}
 use Rattle.ht_statement.specs.Statement.{Statement, input_line, output_line, dff_line, gate_line}
 use Rattle.ht_statement.specs.StatementText.{statement_line}

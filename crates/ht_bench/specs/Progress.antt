@@ -1,7 +1,7 @@
 -- A text that is read line by line.
 use Rattle.std.specs.Prelude.{◌≡◌, ℕ, List, map, flat_map, true}
-use Rattle.ht_net.specs.Named.{Name}
-use Rattle.ht_net.specs.Draft.{Draft}
+use Rattle.ht_net.specs.Build.Named.{Name}
+use Rattle.ht_net.specs.Build.Draft.{Draft}
 use Rattle.ht_statement.specs.Statement.{Statement}
 use Rattle.ht_statement.specs.Reading.{stated}
 use Rattle.ht_bench.specs.Different.{has_name}

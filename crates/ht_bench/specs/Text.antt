@@ -2,8 +2,8 @@
 use Rattle.std.specs.Prelude.{◌≡◌, ℕ, ◌+◌, List, ◌∷◌, ◌++◌, length, map, get_or, [], Option, Some, None, option_map}
 use Rattle.std.specs.Option.{option_or}
 use Rattle.ht_ports.specs.LineRule.{lines_of}
-use Rattle.ht_net.specs.Netlist.{Netlist, IsCircuit}
-use Rattle.ht_net.specs.Named.{Name, named_of}
+use Rattle.ht_net.specs.Circuit.Netlist.{Netlist, IsCircuit}
+use Rattle.ht_net.specs.Build.Named.{Name, named_of}
 use Rattle.ht_statement.specs.Statement.{Statement}
 use Rattle.ht_statement.specs.Reading.{Reading, stated, unreadable, reading_of}
 use Rattle.ht_bench.specs.Contents.{named_of_statements}

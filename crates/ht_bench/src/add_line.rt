@@ -1,7 +1,7 @@
 //! Adding what a line states.
 ghost use Rattle.std.specs.Prelude.{◌≡◌, ◌≤◌, length, None, OnOk, IfErr};
 ghost use Rattle.ht_tern.specs.Gate.{HasArity};
-ghost use Rattle.ht_net.specs.Netlist.{max_arguments};
+ghost use Rattle.ht_net.specs.Circuit.Netlist.{max_arguments};
 ghost use Rattle.ht_statement.specs.Statement.{blank_line, input_line, output_line, dff_line, gate_line};
 ghost use Rattle.ht_statement.specs.StatementOf.{statement_of, texts_of};
 ghost use Rattle.ht_bench.specs.Drafts.{draft_limit, Accepts, RefusesStatement, HasArguments, AddsLine, RefusesLine};

@@ -1,7 +1,7 @@
 //! Names that lines mention, and their numbers.
 ghost use Rattle.std.specs.Prelude.{◌≡◌, [], ◌∷◌, map, All, IfOk, OnOk, IfErr, OnErr};
-ghost use Rattle.ht_net.specs.Draft.{IsDraft, IsName, draft_name};
-ghost use Rattle.ht_net.specs.Names.{IsNameAt};
+ghost use Rattle.ht_net.specs.Build.Draft.{IsDraft, IsName, draft_name};
+ghost use Rattle.ht_net.specs.Build.Names.{IsNameAt};
 ghost use Rattle.ht_statement.specs.StatementOf.{texts_of};
 ghost use Rattle.ht_bench.specs.Drafts.{Mentions, MentionsFree, RefusesMentions, RefusesDriver};
 

@@ -1,7 +1,7 @@
 //! The reader of netlists.
 ghost use Rattle.std.specs.Prelude.{◌≡◌, ◌≤◌, [], length, map, All, IfOk, OnOk, IfErr};
-ghost use Rattle.ht_net.specs.Draft.{IsName, draft_name};
-ghost use Rattle.ht_net.specs.Finish.{RefusesFinish};
+ghost use Rattle.ht_net.specs.Build.Draft.{IsName, draft_name};
+ghost use Rattle.ht_net.specs.Build.Finish.{RefusesFinish};
 ghost use Rattle.ht_bench.specs.Drafts.{IsDraftOf};
 ghost use Rattle.ht_bench.specs.Progress.{IsRead};
 ghost use Rattle.ht_bench.specs.Text.{max_netlist_bytes, IsNetlistOf, Refuses, IsOfNoCircuit};

@@ -1,6 +1,6 @@
 //! Theorems on netlists and their texts: each is the contract of a function that does nothing.
 ghost use Rattle.std.specs.Prelude.{◌≡◌, ℕ, List, Option, Some};
-ghost use Rattle.ht_net.specs.Netlist.{Netlist, IsCircuit};
+ghost use Rattle.ht_net.specs.Circuit.Netlist.{Netlist, IsCircuit};
 ghost use Rattle.ht_bench.specs.Normal.{normal_text, HasFormatNames};
 ghost use Rattle.ht_bench.specs.Text.{IsNetlistOf, Refuses, IsOfNoCircuit};
 ghost use Rattle.ht_bench.specs.TextRefusal.{text_refusal_of};

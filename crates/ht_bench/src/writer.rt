@@ -1,6 +1,6 @@
 //! The writer of normal text.
 ghost use Rattle.std.specs.Prelude.{◌≡◌, ◌++◌, IfOk, OnOk};
-ghost use Rattle.ht_net.specs.Named.{named_of};
+ghost use Rattle.ht_net.specs.Build.Named.{named_of};
 ghost use Rattle.ht_bench.specs.Normal.{input_lines, output_lines, dff_lines, gate_lines, normal_text};
 
 use ht_net::{Circuit, NetId};

@@ -3,7 +3,7 @@ use Rattle.std.proofs.Common.{◌≡◌, List, sym, subst}
 use Rattle.std.specs.List.{All}
 use Rattle.std.proofs.lemmas.List.Elements.{All-weaker}
 use Rattle.ht_tree.specs.declared.clause.Clause.{Clause}
-use Rattle.ht_tree.specs.Clauses.{IsClause}
+use Rattle.ht_tree.specs.Clause.Clauses.{IsClause}
 use Rattle.ht_records.proofs.MeetLaws.{clause_known}
 use Rattle.ht_recompute.specs.KeptFramesOf.{KeptState}
 use Rattle.ht_recompute.specs.WrittenClauses.{IsKnownClause}

@@ -1,8 +1,8 @@
 //! Entries that pass.
 ghost use Rattle.std.specs.Prelude.{◌≡◌, ◌≤◌, ◌↔◌, IfOk, IsTrue};
 ghost use Rattle.ht_tree.specs.declared.limits.TheConstants.{MAX_BUDGET};
-ghost use Rattle.ht_net.specs.Detection.{IsStart};
-ghost use Rattle.ht_tree.specs.Entries.{Means, Passes};
+ghost use Rattle.ht_net.specs.Detect.Detection.{IsStart};
+ghost use Rattle.ht_tree.specs.Record.Entries.{Means, Passes};
 
 use crate::abort_records::is_abort_record;
 use crate::refutations::refutes;

@@ -1,15 +1,15 @@
 //! Invariants: clauses that a state meets, and that no frame of the good machine leaves.
 ghost use Rattle.std.specs.Prelude.{◌≡◌, ◌↔◌, ◌<◌, ◌≤◌, true, length, IfOk, IsTrue};
 ghost use Rattle.std.specs.List.{All};
-ghost use Rattle.ht_net.specs.Detection.{IsState};
+ghost use Rattle.ht_net.specs.Detect.Detection.{IsState};
 ghost use Rattle.ht_tree.specs.declared.clause.Clause.{Clause};
-ghost use Rattle.ht_tree.specs.Clauses.{IsClause, literals_of_each, meets_each};
-ghost use Rattle.ht_tree.specs.Invariants.{IsClosedUnder, IsInvariant, max_clauses};
+ghost use Rattle.ht_tree.specs.Clause.Clauses.{IsClause, literals_of_each, meets_each};
+ghost use Rattle.ht_tree.specs.Clause.Invariants.{IsClosedUnder, IsInvariant, max_clauses};
 
 use crate::state_clauses::{are_clauses, are_met};
 use crate::window_walks::is_complete_walk;
 use ht_net::Circuit;
-use ht_recompute::{FreshClauseWindow, KeptFrames};
+use ht_recompute::{KeptFrames, RecomputedClauseWindow};
 use ht_tree::{Clause, MAX_CLAUSES};
 use std::alloc::{AllocError, Global};
 
@@ -47,7 +47,7 @@ fn is_closed(
         (λ closed. IsTrue closed ↔ IsClosedUnder kept.old.circuit clauses.now clause.now) }
     ensures circuit { kept.new.circuit ≡ kept.old.circuit }
 {
-    let window = FreshClauseWindow::closing(alloc, kept.take(alloc)?, clause, clauses)?;
+    let window = RecomputedClauseWindow::closing(alloc, kept.take(alloc)?, clause, clauses)?;
     is_complete_walk(alloc, kept, window, clause.tokens.as_slice())
 }
 

@@ -1,12 +1,12 @@
 //! Refutations: a set of flip-flops, and a walk that shows that a difference can't leave it.
 ghost use Rattle.std.specs.Prelude.{◌≡◌, ◌<◌, ◌↔◌, ℕ, length, get_or, IfOk, IsTrue};
-ghost use Rattle.ht_tree.specs.Refutations.{Refutes};
-ghost use Rattle.ht_tree.specs.Rising.{Rises};
+ghost use Rattle.ht_tree.specs.Record.Refutations.{Refutes};
+ghost use Rattle.ht_tree.specs.Record.Rising.{Rises};
 
 use crate::window_walks::is_complete_walk;
 use ht_items::Items;
 use ht_net::Fault;
-use ht_recompute::{FreshWindow, KeptFrames};
+use ht_recompute::{KeptFrames, RecomputedWindow};
 use ht_tree::Token;
 use std::alloc::{AllocError, Global};
 
@@ -30,7 +30,7 @@ pub fn refutes(
     if !names_flip_flops(z, kept.circuit().dffs()) {
         return Ok(false);
     }
-    let window = FreshWindow::one_frame(alloc, kept.take(alloc)?, fault, z)?;
+    let window = RecomputedWindow::one_frame(alloc, kept.take(alloc)?, fault, z)?;
     is_complete_walk(alloc, kept, window, tokens.as_slice())
 }
 

@@ -1,13 +1,13 @@
 //! Refutations from one named state: an invariant of the state, and a refutation as long as its clauses are met.
 ghost use Rattle.std.specs.Prelude.{◌≡◌, ◌↔◌, IfOk, IsTrue};
-ghost use Rattle.ht_tree.specs.RefutationsFrom.{RefutesFrom};
+ghost use Rattle.ht_tree.specs.Record.RefutationsFrom.{RefutesFrom};
 
 use crate::invariants::is_invariant;
 use crate::refutations::names_flip_flops;
 use crate::window_walks::is_complete_walk;
 use ht_items::Items;
 use ht_net::Fault;
-use ht_recompute::{FreshClauseWindow, KeptFrames};
+use ht_recompute::{KeptFrames, RecomputedClauseWindow};
 use ht_tree::{Clause, Token};
 use std::alloc::{AllocError, Global};
 
@@ -37,6 +37,6 @@ pub fn refutes_from(
     if !is_invariant(alloc, kept, state.as_slice(), clauses)? {
         return Ok(false);
     }
-    let window = FreshClauseWindow::one_frame(alloc, kept.take(alloc)?, fault, z, clauses)?;
+    let window = RecomputedClauseWindow::one_frame(alloc, kept.take(alloc)?, fault, z, clauses)?;
     is_complete_walk(alloc, kept, window, tokens.as_slice())
 }

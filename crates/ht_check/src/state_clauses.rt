@@ -1,7 +1,7 @@
 //! Clauses of a circuit, and which of them a state meets.
 ghost use Rattle.std.specs.Prelude.{◌≡◌, ◌↔◌, IsTrue};
 ghost use Rattle.std.specs.List.{All, list_all};
-ghost use Rattle.ht_tree.specs.Clauses.{IsClause, literals_of, literals_of_each, meets, meets_each, meets_literal};
+ghost use Rattle.ht_tree.specs.Clause.Clauses.{IsClause, literals_of, literals_of_each, meets, meets_each, meets_literal};
 
 use ht_net::Circuit;
 use ht_tree::{Clause, Literal};

@@ -9,8 +9,8 @@ use Rattle.std.proofs.lemmas.List.Elements.{All-push, All-weaker, filter_passes,
 use Rattle.std.proofs.lemmas.Option.{slice_get-map, slice_get-get_or}
 use Rattle.ht_net.specs.declared.fault.Fault.{Fault}
 use Rattle.ht_net.specs.declared.place.Place.{Place}
-use Rattle.ht_net.specs.Netlist.{Netlist}
-use Rattle.ht_net.specs.Detection.{IsFirstDetection, IsFirstFrom, unknown_state}
+use Rattle.ht_net.specs.Circuit.Netlist.{Netlist}
+use Rattle.ht_net.specs.Detect.Detection.{IsFirstDetection, IsFirstFrom, unknown_state}
 use Rattle.ht_net.proofs.FrameLaws.{le_or_lt}
 use Rattle.ht_faults.specs.Sites.{faults_of}
 use Rattle.ht_faults.specs.Classes.{AreClasses, fault_at, is_representative, own_representatives}

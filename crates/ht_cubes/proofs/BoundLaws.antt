@@ -10,9 +10,9 @@ use Rattle.ht_tern.specs.Gate.{inverts, bool_xor}
 use Rattle.ht_net.specs.declared.net.NetId.{NetId}
 use Rattle.ht_net.specs.declared.fault.Fault.{Fault}
 use Rattle.ht_net.specs.declared.fault.Site.{Site}
-use Rattle.ht_net.specs.Netlist.{Netlist, IsCircuit, first_gate_net, net_count, gate_at, no_net}
-use Rattle.ht_net.specs.Frame.{pin_values}
-use Rattle.ht_net.specs.Faults.{forced, is_stem, is_pin, is_data_pin}
+use Rattle.ht_net.specs.Circuit.Netlist.{Netlist, IsCircuit, first_gate_net, net_count, gate_at, no_net}
+use Rattle.ht_net.specs.Frames.Frame.{pin_values}
+use Rattle.ht_net.specs.Frames.Faults.{forced, is_stem, is_pin, is_data_pin}
 use Rattle.ht_cubes.specs.declared.rail.Rail.{Rail}
 use Rattle.ht_cubes.specs.declared.signed_var.SignedVar.{SignedVar}
 use Rattle.ht_cubes.specs.declared.signal.Signal.{Signal}

@@ -3,7 +3,7 @@ use Rattle.std.proofs.Common.{◌≡◌, ◌<◌, ◌≤◌, ◌+◌, ℕ, suc, 
 use Rattle.std.proofs.lemmas.List.{get_or-set_same, get_or-set_other, length-set}
 use Rattle.std.proofs.lemmas.Bool.{both_ways, cases_Bool, cases_eq, false≢true}
 use Rattle.ht_net.specs.declared.fault.Fault.{Fault}
-use Rattle.ht_net.specs.Netlist.{Netlist, net_count, arg_at, no_net}
+use Rattle.ht_net.specs.Circuit.Netlist.{Netlist, net_count, arg_at, no_net}
 use Rattle.ht_cubes.specs.declared.cone.Reader.{Reader}
 use Rattle.ht_cubes.specs.declared.cone.Reader.TheVariants.{Gate, Dff}
 use Rattle.ht_cubes.specs.Rails.{Encloses, IsCone, first_changed}

@@ -12,10 +12,10 @@ use Rattle.ht_tern.specs.Opposite.{Opposite}
 use Rattle.ht_net.specs.declared.net.NetId.{NetId}
 use Rattle.ht_net.specs.declared.fault.Fault.{Fault}
 use Rattle.ht_net.specs.declared.fault.Site.{Site}
-use Rattle.ht_net.specs.Netlist.{Netlist, IsCircuit, first_gate_net, net_count, gate_at, no_net}
-use Rattle.ht_net.specs.Frame.{Rules, pin_values, gate_output, driver_value, net_value_over, net_value, next_state}
-use Rattle.ht_net.specs.Faults.{forced, tern_rules, is_stem, is_pin, is_data_pin}
-use Rattle.ht_net.specs.Detection.{terns_of}
+use Rattle.ht_net.specs.Circuit.Netlist.{Netlist, IsCircuit, first_gate_net, net_count, gate_at, no_net}
+use Rattle.ht_net.specs.Frames.Frame.{Rules, pin_values, gate_output, driver_value, net_value_over, net_value, next_state}
+use Rattle.ht_net.specs.Frames.Faults.{forced, tern_rules, is_stem, is_pin, is_data_pin}
+use Rattle.ht_net.specs.Detect.Detection.{terns_of}
 use Rattle.ht_net.proofs.DepthLaws.{circuit_depth}
 use Rattle.ht_net.proofs.FrameLaws.{frame_settled, driven_latch, driven_gate}
 use Rattle.ht_net.proofs.FaultLaws.{forced_related}

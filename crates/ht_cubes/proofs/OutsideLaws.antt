@@ -7,9 +7,9 @@ use Rattle.ht_net.specs.declared.net.NetId.{NetId}
 use Rattle.ht_net.specs.declared.fault.Fault.{Fault}
 use Rattle.ht_net.specs.declared.fault.Site.{Site}
 use Rattle.ht_net.specs.declared.fault.Site.TheVariants.{Stem, DffPin, GatePin}
-use Rattle.ht_net.specs.Netlist.{Netlist, IsCircuit, first_gate_net, net_count, gate_at, arg_at, no_net}
-use Rattle.ht_net.specs.Frame.{pin_values, gate_output, driver_value, net_value_over, net_value_within, net_value, next_state}
-use Rattle.ht_net.specs.Faults.{forced, tern_rules, is_stem, is_pin, is_data_pin}
+use Rattle.ht_net.specs.Circuit.Netlist.{Netlist, IsCircuit, first_gate_net, net_count, gate_at, arg_at, no_net}
+use Rattle.ht_net.specs.Frames.Frame.{pin_values, gate_output, driver_value, net_value_over, net_value_within, net_value, next_state}
+use Rattle.ht_net.specs.Frames.Faults.{forced, tern_rules, is_stem, is_pin, is_data_pin}
 use Rattle.ht_net.proofs.FrameLaws.{le_or_lt, driven_input, driven_latch, driven_gate}
 use Rattle.ht_net.proofs.ValueLaws.{taken_get}
 use Rattle.ht_cubes.specs.Rails.{first_changed, Encloses}

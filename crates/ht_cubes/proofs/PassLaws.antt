@@ -4,12 +4,12 @@ use Rattle.std.specs.Prelude.{◌↔◌, IsTrue}
 use Rattle.std.specs.List.{All}
 use Rattle.ht_tern.specs.declared.tern.Tern.{Tern}
 use Rattle.ht_net.specs.declared.fault.Fault.{Fault}
-use Rattle.ht_net.specs.Netlist.{Netlist, IsCircuit}
-use Rattle.ht_net.specs.Detection.{IsStart}
+use Rattle.ht_net.specs.Circuit.Netlist.{Netlist, IsCircuit}
+use Rattle.ht_net.specs.Detect.Detection.{IsStart}
 use Rattle.ht_cubes.specs.declared.rail.Rail.{Rail}
 use Rattle.ht_cubes.specs.declared.clause_step.ClauseStep.{ClauseStep}
 use Rattle.ht_cubes.specs.Rails.{AvoidsAll, IsCone, IsKnownRail, both}
-use Rattle.ht_net.specs.Undetectable.{IsUndetectable}
+use Rattle.ht_net.specs.Detect.Undetectable.{IsUndetectable}
 use Rattle.ht_cubes.specs.Formula.{formula_of, last_variable}
 use Rattle.ht_cubes.specs.declared.signed_var.SignedVar.{SignedVar}
 use Rattle.ht_cubes.specs.Values.{IsBelow}

@@ -11,9 +11,9 @@ use Rattle.ht_tern.specs.Gate.{tern_of}
 use Rattle.ht_tern.specs.Opposite.{Opposite}
 use Rattle.ht_net.specs.declared.net.NetId.{NetId}
 use Rattle.ht_net.specs.declared.fault.Fault.{Fault}
-use Rattle.ht_net.specs.Netlist.{Netlist, IsCircuit, net_count, no_net}
-use Rattle.ht_net.specs.Frame.{frame_outputs, values_at}
-use Rattle.ht_net.specs.Detection.{terns_of}
+use Rattle.ht_net.specs.Circuit.Netlist.{Netlist, IsCircuit, net_count, no_net}
+use Rattle.ht_net.specs.Frames.Frame.{frame_outputs, values_at}
+use Rattle.ht_net.specs.Detect.Detection.{terns_of}
 use Rattle.ht_net.proofs.ValueLaws.{seen_get, seen_length}
 use Rattle.ht_net.proofs.KeptLaws.{contains_map}
 use Rattle.ht_cubes.specs.declared.rail.Rail.{Rail}

@@ -4,14 +4,14 @@ use Rattle.ht_tern.specs.declared.tern.Tern.{Tern}
 use Rattle.ht_tern.specs.declared.tern.Tern.TheVariants.{Unk}
 use Rattle.ht_tern.specs.Opposite.{Opposite}
 use Rattle.ht_net.specs.declared.fault.Fault.{Fault}
-use Rattle.ht_net.specs.Netlist.{Netlist, IsCircuit}
-use Rattle.ht_net.specs.Frame.{run_outputs}
-use Rattle.ht_net.specs.Faults.{tern_rules}
-use Rattle.ht_net.specs.Detection.{DetectsFrom, IsStart, terns_of, unknown_state}
+use Rattle.ht_net.specs.Circuit.Netlist.{Netlist, IsCircuit}
+use Rattle.ht_net.specs.Frames.Frame.{run_outputs}
+use Rattle.ht_net.specs.Frames.Faults.{tern_rules}
+use Rattle.ht_net.specs.Detect.Detection.{DetectsFrom, IsStart, terns_of, unknown_state}
 use Rattle.ht_net.proofs.MoreToldLaws.{detects_where_refined, start_refines_unknown}
 use Rattle.ht_cubes.specs.declared.rail.Rail.{Rail}
 use Rattle.ht_cubes.specs.Rails.{JointState, AvoidsAll, AgreesOutside, IsCone, both}
-use Rattle.ht_net.specs.Undetectable.{IsUndetectable}
+use Rattle.ht_net.specs.Detect.Undetectable.{IsUndetectable}
 use Rattle.ht_cubes.specs.Cubes.{AreKeptFrom, CubesRefute, next_joint}
 use Rattle.ht_cubes.proofs.OutsideLaws.{next_outside}
 

@@ -1,7 +1,7 @@
 -- Marks of nets while a cone is found.
 use Rattle.std.specs.Prelude.{◌≡◌, ◌<◌, ◌≤◌, ◌+◌, ℕ, suc, List, [], ◌∷◌, Bool, true, false, length, get_or}
 use Rattle.ht_net.specs.declared.fault.Fault.{Fault}
-use Rattle.ht_net.specs.Netlist.{Netlist, first_gate_net, gate_at, arg_at, no_net}
+use Rattle.ht_net.specs.Circuit.Netlist.{Netlist, first_gate_net, gate_at, arg_at, no_net}
 use Rattle.ht_cubes.specs.declared.cone.Reader.{Reader}
 use Rattle.ht_cubes.specs.declared.cone.Reader.TheVariants.{Gate, Dff}
 use Rattle.ht_cubes.specs.Rails.{Encloses}

@@ -4,10 +4,10 @@ use Rattle.ht_tern.specs.declared.tern.Tern.{Tern}
 use Rattle.ht_tern.specs.declared.tern.Tern.TheVariants.{Unk}
 use Rattle.ht_tern.specs.Opposite.{Opposite}
 use Rattle.ht_net.specs.declared.fault.Fault.{Fault}
-use Rattle.ht_net.specs.Netlist.{Netlist}
-use Rattle.ht_net.specs.Frame.{frame_outputs, next_state}
-use Rattle.ht_net.specs.Faults.{tern_rules}
-use Rattle.ht_net.specs.Detection.{terns_of}
+use Rattle.ht_net.specs.Circuit.Netlist.{Netlist}
+use Rattle.ht_net.specs.Frames.Frame.{frame_outputs, next_state}
+use Rattle.ht_net.specs.Frames.Faults.{tern_rules}
+use Rattle.ht_net.specs.Detect.Detection.{terns_of}
 use Rattle.ht_cubes.specs.declared.rail.Rail.{Rail}
 use Rattle.ht_cubes.specs.Rails.{JointState, latches_of, both, stuck_line, AvoidsAll, AgreesOutside, IsCone}
 

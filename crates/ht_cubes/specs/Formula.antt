@@ -10,9 +10,9 @@ use Rattle.ht_tern.specs.declared.gate.Kind.TheVariants.{And, Nand, Or, Nor, Xor
 use Rattle.ht_tern.specs.Gate.{bool_xor, inverts}
 use Rattle.ht_net.specs.declared.net.NetId.{NetId}
 use Rattle.ht_net.specs.declared.fault.Fault.{Fault}
-use Rattle.ht_net.specs.Netlist.{Netlist, first_gate_net, net_count, gate_at, no_net}
-use Rattle.ht_net.specs.Frame.{Rules, pin_values}
-use Rattle.ht_net.specs.Faults.{rules_of, is_stem}
+use Rattle.ht_net.specs.Circuit.Netlist.{Netlist, first_gate_net, net_count, gate_at, no_net}
+use Rattle.ht_net.specs.Frames.Frame.{Rules, pin_values}
+use Rattle.ht_net.specs.Frames.Faults.{rules_of, is_stem}
 use Rattle.ht_cubes.specs.declared.rail.Rail.{Rail}
 use Rattle.ht_cubes.specs.declared.signed_var.SignedVar.{SignedVar}
 use Rattle.ht_cubes.specs.declared.signal.Signal.{Signal}

@@ -3,7 +3,7 @@ use Rattle.std.specs.Prelude.{ℕ, List, Bool}
 use Rattle.std.specs.List.{All}
 use Rattle.ht_tern.specs.declared.tern.Tern.{Tern}
 use Rattle.ht_net.specs.declared.fault.Fault.{Fault}
-use Rattle.ht_net.specs.Netlist.{Netlist}
+use Rattle.ht_net.specs.Circuit.Netlist.{Netlist}
 use Rattle.ht_cubes.specs.declared.rail.Rail.{Rail}
 use Rattle.ht_cubes.specs.declared.clause_step.ClauseStep.{ClauseStep}
 use Rattle.ht_cubes.specs.Rails.{AvoidsAll, IsCone, IsKnownRail, both}

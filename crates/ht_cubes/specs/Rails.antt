@@ -7,7 +7,7 @@ use Rattle.ht_tern.specs.Gate.{tern_of}
 use Rattle.ht_net.specs.declared.fault.Fault.{Fault}
 use Rattle.ht_net.specs.declared.fault.Site.{Site}
 use Rattle.ht_net.specs.declared.fault.Site.TheVariants.{Stem, DffPin, GatePin}
-use Rattle.ht_net.specs.Netlist.{Netlist, first_gate_net, net_count, gate_at, arg_at, no_net}
+use Rattle.ht_net.specs.Circuit.Netlist.{Netlist, first_gate_net, net_count, gate_at, arg_at, no_net}
 use Rattle.ht_cubes.specs.declared.rail.Rail.{Rail}
 
 -- A joint state is what the latches of the good and of the faulty machine hold.

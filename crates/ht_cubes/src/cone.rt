@@ -1,7 +1,7 @@
 //! The cone of a fault: the nets that its effect may come to.
 ghost use Rattle.std.specs.Prelude.{◌≡◌, ◌↔◌, ◌<◌, IsTrue, true, length, IfOk};
 ghost use Rattle.ht_net.specs.declared.fault.Fault.{Fault};
-ghost use Rattle.ht_net.specs.Netlist.{net_count};
+ghost use Rattle.ht_net.specs.Circuit.Netlist.{net_count};
 ghost use Rattle.ht_cubes.specs.declared.cone.Reader.TheVariants.{Gate};
 ghost use Rattle.ht_cubes.specs.Rails.{IsCone, first_changed};
 ghost use Rattle.ht_cubes.specs.Cones.{AreReached, CloseBoth, Closes, HaveGrown, IsReader, IsSwept, ReadsMarked, driven, marked};

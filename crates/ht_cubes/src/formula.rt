@@ -1,7 +1,7 @@
 //! The formula of a fault and a list of cubes.
 ghost use Rattle.std.specs.Prelude.{◌≡◌, ◌++◌, ◌+◌, ◌*◌, ◌<◌, ◌-◌, ◌^◌, [], length, IfOk, OnOk};
 ghost use Rattle.std.specs.List.{All, flat_map};
-ghost use Rattle.ht_net.specs.Netlist.{net_count};
+ghost use Rattle.ht_net.specs.Circuit.Netlist.{net_count};
 ghost use Rattle.ht_cubes.specs.Rails.{IsKnownRail};
 ghost use Rattle.ht_cubes.specs.Formula.{clauses_of, formula_of, last_variable, without_constants};
 ghost use Rattle.ht_cubes.specs.Cones.{marked};

@@ -1,7 +1,7 @@
 //! The clauses of one frame of both machines.
 ghost use Rattle.std.specs.Prelude.{◌≡◌, ◌++◌, ◌<◌, length, IfOk, OnOk};
-ghost use Rattle.ht_net.specs.Netlist.{first_gate_net, net_count};
-ghost use Rattle.ht_net.specs.Faults.{is_stem};
+ghost use Rattle.ht_net.specs.Circuit.Netlist.{first_gate_net, net_count};
+ghost use Rattle.ht_net.specs.Frames.Faults.{is_stem};
 ghost use Rattle.ht_cubes.specs.Formula.{both_clauses, frame_clauses, is_doubled, latch_clauses, machine_clauses, pin_signals};
 ghost use Rattle.ht_cubes.specs.Cones.{marked};
 

@@ -1,6 +1,6 @@
 //! Lines as signals.
 ghost use Rattle.std.specs.Prelude.{◌≡◌, ◌<◌, ◌≤◌, ◌&&◌, Option, length};
-ghost use Rattle.ht_net.specs.Netlist.{max_nets, net_count};
+ghost use Rattle.ht_net.specs.Circuit.Netlist.{max_nets, net_count};
 ghost use Rattle.ht_cubes.specs.Rails.{stuck_line};
 ghost use Rattle.ht_cubes.specs.Formula.{driver_signal, net_signal, next_signal, positive, rail_of, rail_variable, stuck_signal, turned, unknown_signal};
 ghost use Rattle.ht_cubes.specs.Cones.{marked};

@@ -3,11 +3,11 @@ ghost use Rattle.std.specs.Prelude.{◌≡◌, ◌↔◌, ◌<◌, IsTrue, get_o
 ghost use Rattle.std.specs.List.{All};
 ghost use Rattle.ht_tern.specs.declared.tern.Tern.TheVariants.{Unk};
 ghost use Rattle.ht_tern.specs.Gate.{tern_of};
-ghost use Rattle.ht_net.specs.Netlist.{net_count};
-ghost use Rattle.ht_net.specs.Detection.{IsStart};
+ghost use Rattle.ht_net.specs.Circuit.Netlist.{net_count};
+ghost use Rattle.ht_net.specs.Detect.Detection.{IsStart};
 ghost use Rattle.ht_cubes.specs.Rails.{AvoidsAll, Avoids, Holds, IsKnownRail, both};
 ghost use Rattle.ht_cubes.specs.Cones.{marked};
-ghost use Rattle.ht_net.specs.Undetectable.{IsUndetectable};
+ghost use Rattle.ht_net.specs.Detect.Undetectable.{IsUndetectable};
 ghost use Rattle.ht_cubes.specs.Passing.{RefutesByCubes};
 
 use crate::cone::cone_of;

@@ -2,7 +2,7 @@
 ghost use Rattle.std.specs.Prelude.{◌≡◌, ◌++◌, ◌∷◌, ◌+◌, ◌<◌, ◌^◌, [], length, map, IfOk, OnOk};
 ghost use Rattle.std.specs.List.{All, filter, flat_map};
 ghost use Rattle.ht_net.specs.declared.net.NetId.{NetId};
-ghost use Rattle.ht_net.specs.Netlist.{net_count};
+ghost use Rattle.ht_net.specs.Circuit.Netlist.{net_count};
 ghost use Rattle.ht_cubes.specs.Rails.{IsKnownRail};
 ghost use Rattle.ht_cubes.specs.Formula.{cube_clause, is_constant, may_come, needs, next_target, output_targets, positive, some_target, target_clauses, targets_of};
 ghost use Rattle.ht_cubes.specs.Cones.{marked};

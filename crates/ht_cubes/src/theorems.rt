@@ -2,9 +2,9 @@
 ghost use Rattle.std.specs.Prelude.{◌≡◌, List};
 ghost use Rattle.ht_tern.specs.declared.tern.Tern.{Tern};
 ghost use Rattle.ht_net.specs.declared.fault.Fault.{Fault};
-ghost use Rattle.ht_net.specs.Netlist.{Netlist, IsCircuit};
-ghost use Rattle.ht_net.specs.Detection.{IsStart};
-ghost use Rattle.ht_net.specs.Undetectable.{IsUndetectable};
+ghost use Rattle.ht_net.specs.Circuit.Netlist.{Netlist, IsCircuit};
+ghost use Rattle.ht_net.specs.Detect.Detection.{IsStart};
+ghost use Rattle.ht_net.specs.Detect.Undetectable.{IsUndetectable};
 ghost use Rattle.ht_cubes.specs.declared.rail.Rail.{Rail};
 ghost use Rattle.ht_cubes.specs.declared.clause_step.ClauseStep.{ClauseStep};
 ghost use Rattle.ht_cubes.specs.Formula.{formula_of};

@@ -7,8 +7,8 @@ use Rattle.std.proofs.lemmas.List.FromFn.{length-map-range_with_len, get_or-map-
 use Rattle.std.proofs.lemmas.List.Sums.{sum_by-le}
 use Rattle.rand_pcg.specs.Lcg.{Lcg}
 use Rattle.ht_tern.specs.Gate.{HasArity}
-use Rattle.ht_net.specs.Lists.{AllDiffer}
-use Rattle.ht_net.specs.Netlist.{Gate, Netlist, IsRank, IsCircuit, first_gate_net, net_count, no_net, no_gate, gate_at, arg_at}
+use Rattle.ht_net.specs.Circuit.Lists.{AllDiffer}
+use Rattle.ht_net.specs.Circuit.Netlist.{Gate, Netlist, IsRank, IsCircuit, first_gate_net, net_count, no_net, no_gate, gate_at, arg_at}
 use Rattle.ht_statement.specs.Name.{is_name}
 use Rattle.ht_bench.specs.Normal.{HasFormatNames}
 use Rattle.ht_random.specs.Words.{generator_of, next_word, after_word, after_words}

@@ -6,7 +6,7 @@ use Rattle.std.proofs.lemmas.Bool.{false≢true, eq-eqb}
 use Rattle.std.proofs.lemmas.List.Elements.{All-nil, All-push, Contains-get_or}
 use Rattle.std.proofs.lemmas.List.Folds.{list_any-from_Any}
 use Rattle.std.proofs.lemmas.List.Quantifiers.{all_pairs_push}
-use Rattle.ht_net.specs.Lists.{AllDiffer}
+use Rattle.ht_net.specs.Circuit.Lists.{AllDiffer}
 use Rattle.std.proofs.lemmas.List.FromFn.{length-map-range_with_len}
 use Rattle.rand_pcg.specs.Lcg.{Lcg}
 use Rattle.ht_tern.specs.declared.gate.Kind.{Kind}

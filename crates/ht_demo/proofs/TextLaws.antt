@@ -5,8 +5,8 @@ use Rattle.std.proofs.lemmas.Grind.{flat_map-append}
 use Rattle.std.proofs.lemmas.List.FromFn.{take-map-range_with_len, fill_by_all}
 use Rattle.ht_tern.specs.declared.gate.Kind.{Kind}
 use Rattle.ht_net.specs.declared.net.NetId.{NetId}
-use Rattle.ht_net.specs.Netlist.{first_gate_net}
-use Rattle.ht_net.specs.Named.{Name, NamedDff, NamedGate, name_of, named_dffs, named_gates}
+use Rattle.ht_net.specs.Circuit.Netlist.{first_gate_net}
+use Rattle.ht_net.specs.Build.Named.{Name, NamedDff, NamedGate, name_of, named_dffs, named_gates}
 use Rattle.ht_statement.specs.Statement.{Statement, input_line, output_line}
 use Rattle.ht_statement.specs.StatementText.{statement_line}
 use Rattle.ht_bench.specs.Normal.{statement_lines, dff_statement, gate_statement, normal_text}

@@ -4,7 +4,7 @@ use Rattle.std.specs.Prelude.{ℕ, ◌+◌, List, map}
 use Rattle.std.specs.List.{range_with_len}
 use Rattle.rand_pcg.specs.Lcg.{Lcg}
 use Rattle.ht_net.specs.declared.net.NetId.{NetId}
-use Rattle.ht_net.specs.Netlist.{Gate, Netlist}
+use Rattle.ht_net.specs.Circuit.Netlist.{Gate, Netlist}
 use Rattle.ht_random.specs.Words.{generator_of, after_words}
 use Rattle.ht_demo.specs.Counts.{input_count, dff_count, first_gate, demo_name}
 use Rattle.ht_demo.specs.Draws.{drawn_gate, after_gates, drawn_gate_net, drawn_outputs}

@@ -5,7 +5,7 @@ use Rattle.rand_pcg.specs.Lcg.{Lcg}
 use Rattle.ht_tern.specs.declared.gate.Kind.{Kind}
 use Rattle.ht_tern.specs.declared.gate.Kind.TheVariants.{And, Nand, Or, Nor, Xor, Xnor, Not, Buf}
 use Rattle.ht_net.specs.declared.net.NetId.{NetId}
-use Rattle.ht_net.specs.Netlist.{Gate}
+use Rattle.ht_net.specs.Circuit.Netlist.{Gate}
 use Rattle.ht_random.specs.Words.{next_word, after_word, after_words}
 use Rattle.ht_demo.specs.Counts.{first_gate}
 

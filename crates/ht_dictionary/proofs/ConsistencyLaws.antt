@@ -9,8 +9,8 @@ use Rattle.ht_tern.specs.Gate.{StandsFor}
 use Rattle.ht_tern.specs.Opposite.{Opposite}
 use Rattle.ht_net.specs.declared.fault.Fault.{Fault}
 use Rattle.ht_net.specs.declared.place.Place.{Place}
-use Rattle.ht_net.specs.Netlist.{Netlist, IsCircuit}
-use Rattle.ht_net.specs.Detection.{IsBefore, IsStart, IsState, bit_at, output_at, outputs_from, some_state, terns_of, unknown_state}
+use Rattle.ht_net.specs.Circuit.Netlist.{Netlist, IsCircuit}
+use Rattle.ht_net.specs.Detect.Detection.{IsBefore, IsStart, IsState, bit_at, output_at, outputs_from, some_state, terns_of, unknown_state}
 use Rattle.ht_net.proofs.ApartLaws.{output_stands, unknown_allows}
 use Rattle.ht_net.proofs.SilenceLaws.{some_allowed, some_long}
 use Rattle.ht_faults.specs.Sites.{faults_of}

@@ -6,8 +6,8 @@ use Rattle.std.proofs.lemmas.List.{get_or_append_left}
 use Rattle.std.proofs.Math.Seq.{get_or-append_seam}
 use Rattle.ht_tern.specs.declared.tern.Tern.{Tern}
 use Rattle.ht_net.specs.declared.place.Place.{Place}
-use Rattle.ht_net.specs.Netlist.{Netlist}
-use Rattle.ht_net.specs.Detection.{IsPlace}
+use Rattle.ht_net.specs.Circuit.Netlist.{Netlist}
+use Rattle.ht_net.specs.Detect.Detection.{IsPlace}
 use Rattle.ht_faults.specs.Classes.{fault_at, is_representative}
 use Rattle.ht_serial.specs.Contradictions.{IsFirstContradiction}
 use Rattle.ht_dictionary.specs.Diagnoses.{contradiction_at}

@@ -1,7 +1,7 @@
 -- The text of a diagnosis, line by line.
 use Rattle.std.proofs.Common.{◌≡◌, ◌+◌, ◌++◌, ◌∷◌, ℕ, List, length, ◌∙◌, ap, arith}
 use Rattle.std.proofs.lemmas.List.FromFn.{map-range_with_len_more}
-use Rattle.ht_net.specs.Netlist.{Netlist}
+use Rattle.ht_net.specs.Circuit.Netlist.{Netlist}
 use Rattle.ht_texts.specs.Lines.{with_lf, with_lfs}
 use Rattle.ht_texts.proofs.ReportLaws.{with_lfs-push}
 use Rattle.ht_faults.specs.Sites.{faults_of}

@@ -3,7 +3,7 @@
 use Rattle.std.specs.Prelude.{ℕ, List, [], ◌∷◌, ◌++◌, if◌then◌else◌, length, map, Option, Some, None, is_none, count_by, codes}
 use Rattle.std.specs.List.{range_with_len}
 use Rattle.ht_net.specs.declared.place.Place.{Place}
-use Rattle.ht_net.specs.Netlist.{Netlist}
+use Rattle.ht_net.specs.Circuit.Netlist.{Netlist}
 use Rattle.ht_faults.specs.Sites.{faults_of}
 use Rattle.ht_faults.specs.Classes.{is_representative, own_representatives, class_count}
 use Rattle.ht_texts.specs.declared.said.Said.TheVariants.{Undetected}

@@ -4,8 +4,8 @@ use Rattle.std.specs.Prelude.{◌≡◌, ◌-◌, ◌++◌, ℕ, List, Bool, Opt
 use Rattle.std.specs.Fmt.{decimal}
 use Rattle.ht_tern.specs.declared.tern.Tern.{Tern}
 use Rattle.ht_net.specs.declared.fault.Fault.{Fault}
-use Rattle.ht_net.specs.Netlist.{Netlist}
-use Rattle.ht_net.specs.Detection.{outputs_from}
+use Rattle.ht_net.specs.Circuit.Netlist.{Netlist}
+use Rattle.ht_net.specs.Detect.Detection.{outputs_from}
 use Rattle.ht_texts.specs.Lines.{with_lf, with_lfs}
 use Rattle.ht_dictionary.specs.ResponseTexts.{row_text}
 

@@ -1,7 +1,7 @@
 //! The first contradictions of all machines with an observation.
 ghost use Rattle.std.specs.Prelude.{◌≡◌, ◌<◌, true, length, IfOk};
 ghost use Rattle.std.specs.Option.{ForSome};
-ghost use Rattle.ht_net.specs.Detection.{IsPlace};
+ghost use Rattle.ht_net.specs.Detect.Detection.{IsPlace};
 ghost use Rattle.ht_faults.specs.Sites.{faults_of};
 ghost use Rattle.ht_faults.specs.Classes.{AreClasses, fault_at, is_representative};
 ghost use Rattle.ht_serial.specs.Contradictions.{IsFirstContradiction, IsObservedOver};

@@ -1,7 +1,7 @@
 //! The text of a diagnosis.
 ghost use Rattle.std.specs.Prelude.{◌≡◌, ◌<◌, ◌++◌, length, IfOk, OnOk};
 ghost use Rattle.std.specs.Option.{ForSome};
-ghost use Rattle.ht_net.specs.Detection.{IsPlace};
+ghost use Rattle.ht_net.specs.Detect.Detection.{IsPlace};
 ghost use Rattle.ht_faults.specs.Sites.{faults_of};
 ghost use Rattle.ht_faults.specs.Classes.{AreClasses};
 ghost use Rattle.ht_texts.specs.Lines.{with_lf};

@@ -4,8 +4,8 @@ ghost use Rattle.std.specs.Prelude.{◌<◌, ◌≤◌, ◌+◌, ℕ, List, Bool
 ghost use Rattle.ht_tern.specs.declared.tern.Tern.{Tern};
 ghost use Rattle.ht_net.specs.declared.fault.Fault.{Fault};
 ghost use Rattle.ht_net.specs.declared.place.Place.{Place};
-ghost use Rattle.ht_net.specs.Netlist.{Netlist, IsCircuit};
-ghost use Rattle.ht_net.specs.Detection.{IsState};
+ghost use Rattle.ht_net.specs.Circuit.Netlist.{Netlist, IsCircuit};
+ghost use Rattle.ht_net.specs.Detect.Detection.{IsState};
 ghost use Rattle.ht_faults.specs.Sites.{faults_of};
 ghost use Rattle.ht_faults.specs.Classes.{AreClasses, fault_at};
 ghost use Rattle.ht_texts.specs.Tests.{IsTooLong};

@@ -3,22 +3,22 @@ use Rattle.std.proofs.Common.{◌≡◌, ◌∙◌, ◌++◌, ◌+◌, ◌*◌, 
 use Rattle.ht_net.specs.declared.fault.Fault.{Fault}
 use Rattle.std.proofs.lemmas.List.Elements.{All-append, All-cons, All-nil}
 use Rattle.std.proofs.lemmas.List.FromFn.{length-map-range_with_len}
-use Rattle.ht_net.specs.Netlist.{Netlist}
-use Rattle.ht_net.specs.Rows.{Rows}
-use Rattle.ht_net.specs.Detection.{Detects}
+use Rattle.ht_net.specs.Circuit.Netlist.{Netlist}
+use Rattle.ht_net.specs.Frames.Rows.{Rows}
+use Rattle.ht_net.specs.Detect.Detection.{Detects}
 use Rattle.ht_tern.specs.declared.tern.Tern.{Tern}
-use Rattle.ht_tree.specs.Decisions.{decided_value}
-use Rattle.ht_tree.specs.FoundLists.{bit_or_zero}
-use Rattle.ht_tree.specs.Nodes.{or_unknown}
-use Rattle.ht_tree.specs.Reached.{AreVectors}
-use Rattle.ht_tree.specs.ToldChains.{AreChained, IsToldPlace, Tells, state_of_spot, told_path}
+use Rattle.ht_tree.specs.Window.Decisions.{decided_value}
+use Rattle.ht_tree.specs.Walk.FoundLists.{bit_or_zero}
+use Rattle.ht_tree.specs.Window.Nodes.{or_unknown}
+use Rattle.ht_tree.specs.Record.Reached.{AreVectors}
+use Rattle.ht_tree.specs.Record.ToldChains.{AreChained, IsToldPlace, Tells, state_of_spot, told_path}
 use Rattle.ht_net.proofs.MoreToldLaws.{detects_from_any}
 use Rattle.ht_engine.specs.declared.told_frame.ToldFrame.{ToldFrame}
 use Rattle.ht_engine.specs.ToldFrames.{IsFrameOf}
 use Rattle.ht_tree.specs.declared.told.Told.{Told}
 use Rattle.ht_tree.specs.declared.window.Spot.{Spot}
 use Rattle.ht_tree.specs.declared.window.Spot.TheVariants.{Output, State, Cube}
-use Rattle.ht_tree.specs.AimedAttempts.{GoesAhead, IsStateSpot, told_state}
+use Rattle.ht_tree.specs.Record.AimedAttempts.{GoesAhead, IsStateSpot, told_state}
 use Rattle.ht_forward.specs.declared.ahead.Ahead.{Ahead}
 use Rattle.ht_forward.specs.declared.ahead.Ahead.TheVariants.{Found, Closed, Spent}
 use Rattle.ht_forward.specs.AheadSearches.{AheadHolds}

@@ -3,12 +3,12 @@ use Rattle.std.proofs.Common.{◌≡◌, ◌+◌, ◌-◌, ℕ, List, Bool, Some
 use Rattle.std.specs.Prelude.{IfOk, Result, Ok, Err}
 use Rattle.ht_tern.specs.declared.tern.Tern.{Tern}
 use Rattle.ht_net.specs.declared.fault.Fault.{Fault}
-use Rattle.ht_net.specs.Detection.{IsStart, state_from}
-use Rattle.ht_net.specs.Netlist.{Netlist}
-use Rattle.ht_net.specs.Rows.{Rows}
+use Rattle.ht_net.specs.Detect.Detection.{IsStart, state_from}
+use Rattle.ht_net.specs.Circuit.Netlist.{Netlist}
+use Rattle.ht_net.specs.Frames.Rows.{Rows}
 use Rattle.ht_tree.specs.declared.entry.Entry.{Entry}
 use Rattle.ht_tree.specs.declared.entry.Entry.TheVariants.{Untestable, UntestableFrom, UndetectableBySets, UndetectableByCubes, Aborted}
-use Rattle.ht_tree.specs.Windows as window
+use Rattle.ht_tree.specs.Window.Windows as window
 use Rattle.ht_events.specs.Plans.{max_frames}
 use Rattle.ht_forward.specs.AheadSearches.{IsListAhead}
 use Rattle.ht_invariant.specs.declared.finding.Invariant.{Invariant}

@@ -1,9 +1,9 @@
 -- What the work on a fault means leaves no other answer where the budget is enough.
 use Rattle.std.proofs.Common.{◌≡◌, ◌≤◌, ◌<◌, ℕ, List, [], ◌∷◌, Bool, true, Option, Some, None, length, refl, subst, arith}
 use Rattle.ht_net.specs.declared.fault.Fault.{Fault}
-use Rattle.ht_net.specs.Detection.{Detects, IsStart, unknown_state}
-use Rattle.ht_net.specs.Netlist.{IsCircuit, Netlist}
-use Rattle.ht_net.specs.Silence.{Sealed}
+use Rattle.ht_net.specs.Detect.Detection.{Detects, IsStart, unknown_state}
+use Rattle.ht_net.specs.Circuit.Netlist.{IsCircuit, Netlist}
+use Rattle.ht_net.specs.Detect.Silence.{Sealed}
 use Rattle.ht_net.proofs.MoreToldLaws.{unknown_is_start}
 use Rattle.ht_tree.specs.declared.clause.Clause.{Clause}
 use Rattle.ht_tree.specs.declared.clause.Literal.{Literal}
@@ -12,14 +12,14 @@ use Rattle.ht_tree.specs.declared.entry.Entry.TheVariants.{Untestable, Untestabl
 use Rattle.ht_tree.specs.declared.kind.EntryKind.TheVariants as kinds
 use Rattle.ht_tree.specs.declared.token.Token.{Token}
 use Rattle.ht_tree.specs.declared.told.Told.{Told}
-use Rattle.ht_tree.specs.AbortRecords.{IsAbortRecord, IsLastWalk}
-use Rattle.ht_tree.specs.Budgets.{refutation_cost, sweep_cost}
-use Rattle.ht_tree.specs.Clauses.{literals_of_each}
-use Rattle.ht_tree.specs.Entries.{Passes}
-use Rattle.ht_tree.specs.FamilyRows.{family_of}
-use Rattle.ht_tree.specs.SealedInClauses.{SealedIn}
-use Rattle.ht_tree.specs.ToldChains.{ends_at_output, states_of}
-use Rattle.ht_tree.specs.Windows as window
+use Rattle.ht_tree.specs.Record.AbortRecords.{IsAbortRecord, IsLastWalk}
+use Rattle.ht_tree.specs.Walk.Budgets.{refutation_cost, sweep_cost}
+use Rattle.ht_tree.specs.Clause.Clauses.{literals_of_each}
+use Rattle.ht_tree.specs.Record.Entries.{Passes}
+use Rattle.ht_tree.specs.Record.FamilyRows.{family_of}
+use Rattle.ht_tree.specs.Clause.SealedInClauses.{SealedIn}
+use Rattle.ht_tree.specs.Record.ToldChains.{ends_at_output, states_of}
+use Rattle.ht_tree.specs.Window.Windows as window
 use Rattle.ht_records.proofs.AbortLaws.{enough_undetected, passing_means}
 use Rattle.ht_records.proofs.ChainLaws.{chain_to_output}
 use Rattle.ht_records.proofs.RunFamilyLaws.{closed_undetected}

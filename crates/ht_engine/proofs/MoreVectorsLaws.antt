@@ -6,11 +6,11 @@ use Rattle.ht_tern.specs.declared.tern.Tern.{Tern}
 use Rattle.ht_tern.specs.declared.tern.Tern.TheVariants.{Zero, One, Unk}
 use Rattle.ht_tern.specs.Opposite.{Opposite}
 use Rattle.ht_net.specs.declared.fault.Fault.{Fault}
-use Rattle.ht_net.specs.Netlist.{Netlist}
-use Rattle.ht_net.specs.Frame.{Rules, next_state, run_outputs, run_state}
-use Rattle.ht_net.specs.Faults.{tern_rules}
-use Rattle.ht_net.specs.Detection.{DetectsFrom, IsFirstFrom, output_from, state_from, terns_of}
-use Rattle.ht_tree.specs.Reached.{ShowsFrom, shown_at}
+use Rattle.ht_net.specs.Circuit.Netlist.{Netlist}
+use Rattle.ht_net.specs.Frames.Frame.{Rules, next_state, run_outputs, run_state}
+use Rattle.ht_net.specs.Frames.Faults.{tern_rules}
+use Rattle.ht_net.specs.Detect.Detection.{DetectsFrom, IsFirstFrom, output_from, state_from, terns_of}
+use Rattle.ht_tree.specs.Record.Reached.{ShowsFrom, shown_at}
 
 -- a value that is shown stays the same where vectors come after
 same_or_unknown : (c : Netlist) (r : Rules Tern) (latches : List Tern) (xs ys : List (List Tern)) (t o : ℕ)

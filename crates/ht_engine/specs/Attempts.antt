@@ -4,17 +4,17 @@ use Rattle.std.specs.Prelude.{◌≡◌, ◌++◌, ℕ, List, [], ◌∷◌, Boo
 use Rattle.std.specs.List.{All}
 use Rattle.ht_tern.specs.declared.tern.Tern.{Tern}
 use Rattle.ht_net.specs.declared.fault.Fault.{Fault}
-use Rattle.ht_net.specs.Netlist.{Netlist}
-use Rattle.ht_net.specs.Rows.{Rows}
-use Rattle.ht_net.specs.Detection.{Detects, DetectsFrom, IsStart}
+use Rattle.ht_net.specs.Circuit.Netlist.{Netlist}
+use Rattle.ht_net.specs.Frames.Rows.{Rows}
+use Rattle.ht_net.specs.Detect.Detection.{Detects, DetectsFrom, IsStart}
 use Rattle.ht_tree.specs.declared.aim.Aim.{Aim}
 use Rattle.ht_tree.specs.declared.aim.Aim.TheVariants as aim
 use Rattle.ht_tree.specs.declared.told.Told.{Told}
 use Rattle.ht_tree.specs.declared.window.Spot.{Spot}
 use Rattle.ht_tree.specs.declared.window.Spot.TheVariants.{Output, State, Cube}
-use Rattle.ht_tree.specs.AbortRecords.{IsFirstAim}
-use Rattle.ht_tree.specs.AimedAttempts.{ahead_window, back_limit, composition, told_cube, GoesAhead, IsAim}
-use Rattle.ht_tree.specs.Reached.{AreVectors}
+use Rattle.ht_tree.specs.Record.AbortRecords.{IsFirstAim}
+use Rattle.ht_tree.specs.Record.AimedAttempts.{ahead_window, back_limit, composition, told_cube, GoesAhead, IsAim}
+use Rattle.ht_tree.specs.Record.Reached.{AreVectors}
 use Rattle.ht_forward.specs.declared.ahead.Ahead.{Ahead}
 use Rattle.ht_forward.specs.declared.ahead.Ahead.TheVariants as ahead
 use Rattle.ht_forward.specs.AheadSearches.{IsAhead}

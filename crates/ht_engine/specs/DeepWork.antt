@@ -5,20 +5,20 @@ use Rattle.std.specs.List.{All}
 use Rattle.ht_tern.specs.declared.tern.Tern.{Tern}
 use Rattle.ht_pairs.specs.Pairs.{set_of}
 use Rattle.ht_net.specs.declared.fault.Fault.{Fault}
-use Rattle.ht_net.specs.Netlist.{Netlist}
-use Rattle.ht_net.specs.Rows.{Rows}
-use Rattle.ht_net.specs.Detection.{DetectsFrom, state_from}
+use Rattle.ht_net.specs.Circuit.Netlist.{Netlist}
+use Rattle.ht_net.specs.Frames.Rows.{Rows}
+use Rattle.ht_net.specs.Detect.Detection.{DetectsFrom, state_from}
 use Rattle.ht_tree.specs.declared.entry.Entry.{Entry}
 use Rattle.ht_tree.specs.declared.entry.Entry.TheVariants.{Untestable, UntestableFrom, UndetectableBySets}
 use Rattle.ht_tree.specs.declared.family_row.FamilyRow.{FamilyRow}
 use Rattle.ht_tree.specs.declared.token.Token.{Token}
 use Rattle.ht_tree.specs.declared.told.Told.{Told}
-use Rattle.ht_tree.specs.ClosedFamilies.{Closes, Family}
-use Rattle.ht_tree.specs.Entries.{Passes}
-use Rattle.ht_tree.specs.FamilyRows.{dffs_of, family_of, start_set}
-use Rattle.ht_tree.specs.Reached.{AreVectors}
-use Rattle.ht_tree.specs.Rising.{Rises}
-use Rattle.ht_tree.specs.Windows as window
+use Rattle.ht_tree.specs.Record.ClosedFamilies.{Closes, Family}
+use Rattle.ht_tree.specs.Record.Entries.{Passes}
+use Rattle.ht_tree.specs.Record.FamilyRows.{dffs_of, family_of, start_set}
+use Rattle.ht_tree.specs.Record.Reached.{AreVectors}
+use Rattle.ht_tree.specs.Record.Rising.{Rises}
+use Rattle.ht_tree.specs.Window.Windows as window
 use Rattle.ht_families.specs.Families.{IsLeastClosing}
 use Rattle.ht_events.specs.Plans.{max_frames}
 use Rattle.ht_forward.specs.declared.sweeping.Swept.TheVariants as swept

@@ -1,7 +1,7 @@
 -- How an engine's fields stand for it.
 use Rattle.std.specs.Prelude.{◌≡◌, ◌≤◌, List, Bool, length}
 use Rattle.ht_net.specs.declared.fault.Fault.{Fault}
-use Rattle.ht_net.specs.Detection.{IsStart}
+use Rattle.ht_net.specs.Detect.Detection.{IsStart}
 use Rattle.ht_faults.specs.Sites.{faults_of}
 use Rattle.ht_faults.specs.Classes.{AreClasses}
 use Rattle.ht_texts.specs.SearchReports.{IsBudget}

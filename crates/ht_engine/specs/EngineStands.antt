@@ -2,12 +2,12 @@
 use Rattle.std.specs.Prelude.{◌≡◌, ◌<◌, ◌≤◌, ◌-◌, ◌+◌, ℕ, List, [], ◌∷◌, ◌++◌, Bool, drop, get_or, length, Option, Some, None}
 use Rattle.std.specs.List.{All, Contains}
 use Rattle.ht_tern.specs.declared.tern.Tern.{Tern}
-use Rattle.ht_net.specs.Netlist.{Netlist}
-use Rattle.ht_net.specs.Detection.{DetectsFrom, IsFirstFrom, IsStart}
+use Rattle.ht_net.specs.Circuit.Netlist.{Netlist}
+use Rattle.ht_net.specs.Detect.Detection.{DetectsFrom, IsFirstFrom, IsStart}
 use Rattle.ht_faults.specs.Classes.{fault_at}
 use Rattle.ht_proofs.specs.ClassGraderView.{ClassGraderStandsFor, ClassGraderView}
-use Rattle.ht_tree.specs.Entries.{AllowsEntry, Passes, kind_of}
-use Rattle.ht_tree.specs.Reached.{AreVectors}
+use Rattle.ht_tree.specs.Record.Entries.{AllowsEntry, Passes, kind_of}
+use Rattle.ht_tree.specs.Record.Reached.{AreVectors}
 use Rattle.ht_texts.specs.declared.said.Said.{Said}
 use Rattle.ht_texts.specs.declared.said.Said.TheVariants as said
 use Rattle.ht_tree.specs.declared.clause.Clause.{Clause}

@@ -1,13 +1,13 @@
 -- What one step changes of what an engine keeps.
 use Rattle.std.specs.Prelude.{◌≡◌, ◌⊎◌, ◌<◌, ◌≤◌, ◌+◌, ◌∷◌, ◌++◌, ℕ, List, [], Bool, Option, Some, None, length, slice_set}
-use Rattle.ht_net.specs.Rows.{Rows}
+use Rattle.ht_net.specs.Frames.Rows.{Rows}
 use Rattle.ht_faults.specs.Classes.{fault_at}
 use Rattle.ht_proofs.specs.Detections.{place_at}
 use Rattle.ht_texts.specs.declared.said.Said.{Said}
 use Rattle.ht_texts.specs.declared.said.Said.TheVariants as said
 use Rattle.ht_tree.specs.declared.entry.Entry as recorded
 use Rattle.ht_tree.specs.declared.kind.EntryKind.{EntryKind}
-use Rattle.ht_tree.specs.Entries.{kind_of}
+use Rattle.ht_tree.specs.Record.Entries.{kind_of}
 use Rattle.ht_valid.specs.ValidFiles.{IsOwn, said_by_kind}
 use Rattle.ht_engine.specs.declared.step.Step.{Step}
 use Rattle.ht_engine.specs.declared.step.Step.TheVariants.{Vectors, Entry, Finished}

@@ -3,9 +3,9 @@
 use Rattle.std.specs.Prelude.{◌≡◌, ◌⊎◌, ◌<◌, ◌≤◌, ◌+◌, ◌-◌, ℕ, List, [], ◌∷◌, ◌++◌, flat_map, get_or, length, Bool, None}
 use Rattle.std.specs.List.{Contains}
 use Rattle.std.specs.Option.{ForSome}
-use Rattle.ht_net.specs.Netlist.{Netlist}
-use Rattle.ht_net.specs.Rows.{Rows}
-use Rattle.ht_net.specs.Detection.{IsFirstFrom}
+use Rattle.ht_net.specs.Circuit.Netlist.{Netlist}
+use Rattle.ht_net.specs.Frames.Rows.{Rows}
+use Rattle.ht_net.specs.Detect.Detection.{IsFirstFrom}
 use Rattle.ht_faults.specs.Classes.{fault_at}
 use Rattle.ht_entries.specs.declared.numbered.Numbered.{Numbered}
 use Rattle.ht_valid.specs.ValidFiles.{HasEntry, IsOwn}

@@ -1,10 +1,10 @@
 -- What is said of the rounds of refutation of a task, and of the attempt at the told frame of one: its fault and budget
 -- go along, and its invariant or its circuit.
 use Rattle.std.specs.Prelude.{◌≡◌, [], ◌∷◌, Option}
-use Rattle.ht_net.specs.Netlist.{Netlist}
-use Rattle.ht_net.specs.Rows.{Rows}
+use Rattle.ht_net.specs.Circuit.Netlist.{Netlist}
+use Rattle.ht_net.specs.Frames.Rows.{Rows}
 use Rattle.ht_tree.specs.declared.entry.Entry.{Entry}
-use Rattle.ht_tree.specs.AimedAttempts.{back_limit, told_cube}
+use Rattle.ht_tree.specs.Record.AimedAttempts.{back_limit, told_cube}
 use Rattle.ht_forward.specs.declared.ahead.Ahead.{Ahead}
 use Rattle.ht_justify.specs.declared.justification.Back.{Back}
 use Rattle.ht_justify.specs.Answers.{BackHolds, IsListBack}

@@ -1,7 +1,7 @@
 //! The deep work on one fault: also a family that closes, and a sweep that goes on from the states reached.
 ghost use Rattle.std.specs.Prelude.{◌≡◌, ◌≤◌, IfOk, MatchOption};
-ghost use Rattle.ht_net.specs.Detection.{IsStart};
-ghost use Rattle.ht_tree.specs.Windows.{state_pair};
+ghost use Rattle.ht_net.specs.Detect.Detection.{IsStart};
+ghost use Rattle.ht_tree.specs.Window.Windows.{state_pair};
 ghost use Rattle.ht_tree.specs.declared.limits.TheConstants.{MAX_BUDGET};
 ghost use Rattle.ht_engine.specs.DeepWork.{AreLeastRows, DeepWorkHolds, IsDeepWork, IsOpenWork, IsWorkOnward, NoneCloses, ShowsOn};
 ghost use Rattle.ht_engine.specs.Enough.{IsEnough};

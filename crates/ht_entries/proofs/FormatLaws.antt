@@ -4,7 +4,7 @@ use Rattle.std.proofs.lemmas.Bool.{false≢true}
 use Rattle.ht_tree.specs.declared.entry.Entry.{Entry}
 use Rattle.ht_tree.specs.declared.entry.Entry.TheVariants.{Untestable, UntestableFrom, UndetectableBySets, UndetectableByCubes, Aborted}
 use Rattle.ht_tree.specs.declared.kind.EntryKind.TheVariants as kinds
-use Rattle.ht_tree.specs.Entries.{kind_of}
+use Rattle.ht_tree.specs.Record.Entries.{kind_of}
 use Rattle.ht_entries.specs.declared.format.Format.{Format}
 use Rattle.ht_entries.specs.declared.format.Format.TheVariants.{One, Two, Three}
 use Rattle.ht_entries.specs.EntryLines.{whole_part}

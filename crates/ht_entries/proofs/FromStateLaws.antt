@@ -11,7 +11,7 @@ use Rattle.std.specs.Option.{option_map}
 use Rattle.ht_tree.specs.declared.token.Token.{Token}
 use Rattle.ht_tree.specs.declared.clause.Clause.{Clause}
 use Rattle.ht_tree.specs.declared.clause.Literal.{Literal}
-use Rattle.ht_tree.specs.Invariants.{max_clauses}
+use Rattle.ht_tree.specs.Clause.Invariants.{max_clauses}
 use Rattle.ht_entries.specs.declared.proof_line.ProofLine.{ProofLine}
 use Rattle.ht_entries.specs.declared.proof_line.ProofLine.TheVariants as line
 use Rattle.ht_entries.specs.declared.from_state.FromStateLine.TheVariants as form

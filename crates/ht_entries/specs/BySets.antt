@@ -5,8 +5,8 @@ use Rattle.std.specs.List.{All}
 use Rattle.ht_texts.specs.Tests.{tern_code}
 use Rattle.ht_pairs.specs.Pairs.{Pair, set_of}
 use Rattle.ht_tree.specs.declared.family_row.FamilyRow.{FamilyRow}
-use Rattle.ht_tree.specs.FamilyRows.{dffs_of}
-use Rattle.ht_tree.specs.Rising.{Rises}
+use Rattle.ht_tree.specs.Record.FamilyRows.{dffs_of}
+use Rattle.ht_tree.specs.Record.Rising.{Rises}
 use Rattle.ht_entries.specs.declared.proof_line.ProofLine.{ProofLine}
 use Rattle.ht_entries.specs.declared.proof_line.ProofLine.TheVariants as line
 use Rattle.ht_entries.specs.declared.by_sets.BySetsLine.{BySetsLine}

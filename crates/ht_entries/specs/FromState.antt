@@ -3,14 +3,14 @@ use Rattle.std.specs.Prelude.{◌≡◌, ◌≢◌, ◌<◌, ◌≤◌, ◌+◌,
 use Rattle.std.specs.Fmt.{decimal}
 use Rattle.std.specs.List.{All}
 use Rattle.std.specs.Option.{option_map}
-use Rattle.ht_net.specs.Netlist.{max_dffs}
+use Rattle.ht_net.specs.Circuit.Netlist.{max_dffs}
 use Rattle.ht_texts.specs.Tests.{bit_code, vector_text}
 use Rattle.ht_tree.specs.declared.token.Token.{Token}
 use Rattle.ht_tree.specs.declared.clause.Clause.{Clause}
 use Rattle.ht_tree.specs.declared.clause.Literal.{Literal}
 use Rattle.ht_tree.specs.declared.entry.Entry.{Entry}
 use Rattle.ht_tree.specs.declared.entry.Entry.TheVariants.{UntestableFrom}
-use Rattle.ht_tree.specs.Invariants.{max_clauses}
+use Rattle.ht_tree.specs.Clause.Invariants.{max_clauses}
 use Rattle.ht_entries.specs.declared.proof_line.ProofLine.{ProofLine}
 use Rattle.ht_entries.specs.declared.proof_line.ProofLine.TheVariants as line
 use Rattle.ht_entries.specs.declared.from_state.FromStateLine.{FromStateLine}

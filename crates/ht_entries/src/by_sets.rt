@@ -3,7 +3,7 @@ ghost use Rattle.std.specs.Prelude.{◌≡◌, ◌≢◌, ◌++◌, ◌∷◌, [
 ghost use Rattle.ht_pairs.specs.Included.{joined_set};
 ghost use Rattle.ht_pairs.specs.Pairs.{pair};
 ghost use Rattle.ht_texts.specs.Lines.{with_lf};
-ghost use Rattle.ht_tree.specs.FamilyRows.{dffs_of};
+ghost use Rattle.ht_tree.specs.Record.FamilyRows.{dffs_of};
 ghost use Rattle.ht_entries.specs.declared.by_sets.BySetsLine.TheVariants as form;
 ghost use Rattle.ht_entries.specs.LineTexts.{lines_text};
 ghost use Rattle.ht_entries.specs.ParsedLines.{IsParsed};

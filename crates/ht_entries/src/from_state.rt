@@ -2,7 +2,7 @@
 ghost use Rattle.std.specs.Prelude.{◌≡◌, ◌≢◌, ◌++◌, ◌∷◌, ◌&&◌, [], ℕ, is_some, ltb, length, IsTrue, List, Some, IfOk, IfSome, IfNone, OnOk, MatchOption, flat_map};
 ghost use Rattle.ht_texts.specs.Lines.{with_lf};
 ghost use Rattle.ht_texts.specs.Tests.{vector_text};
-ghost use Rattle.ht_tree.specs.Invariants.{max_clauses};
+ghost use Rattle.ht_tree.specs.Clause.Invariants.{max_clauses};
 ghost use Rattle.ht_tree.specs.declared.clause.Literal.{Literal};
 ghost use Rattle.ht_entries.specs.declared.from_state.FromStateLine.TheVariants as form;
 ghost use Rattle.ht_entries.specs.declared.proof_line.ProofLine.TheVariants as one;

@@ -3,7 +3,7 @@ use Rattle.std.proofs.Common.{◌≡◌, ◌<◌, ◌≤◌, ◌+◌, ◌-◌, �
 use Rattle.std.proofs.lemmas.Nat.{div-mul-add, mod-mul-add, div-add-mod'}
 use Rattle.std.proofs.Math.Nat.{mul-le-mul_right, div-lt_iff_lt-mul, mod-lt, suc-mul, mul-zero}
 use Rattle.std.proofs.lemmas.Bool.Decides.{nat_tests}
-use Rattle.ht_net.specs.Netlist.{Netlist}
+use Rattle.ht_net.specs.Circuit.Netlist.{Netlist}
 use Rattle.ht_events.specs.Ranks.{AreRanked}
 use Rattle.ht_events.specs.Items.{frame_items, item_count, item_at, frame_of, local_of, driven_net, IsGateOn, ReadsNet, reader_frame, IsReader, IsLoad}
 

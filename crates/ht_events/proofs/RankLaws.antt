@@ -1,6 +1,6 @@
 -- Sources, and then gates in an order of theirs: each once, and a gate after what it reads.
 use Rattle.std.proofs.Common.{◌≡◌, ◌≢◌, ◌<◌, ◌≤◌, ◌+◌, ◌-◌, ◌∙◌, ℕ, List, length, get_or, sym, ap, arith, inl, inr}
-use Rattle.ht_net.specs.Netlist.{Netlist, first_gate_net, gate_at, arg_at, IsOrder}
+use Rattle.ht_net.specs.Circuit.Netlist.{Netlist, first_gate_net, gate_at, arg_at, IsOrder}
 use Rattle.ht_net.proofs.FrameLaws.{le_or_lt}
 use Rattle.ht_events.specs.Ranks.{ReadsNumber, AreRanked}
 

@@ -6,8 +6,8 @@ use Rattle.std.proofs.lemmas.Bool.Decides.{eqb_tells}
 use Rattle.std.proofs.lemmas.List.{length-map, get_or-map, get_or-take, get_or-drop, get_or_past, get_or_default, length-take-le, length-drop, length-set}
 use Rattle.std.proofs.lemmas.List.Sums.{sum_by-drop_more}
 use Rattle.ht_net.specs.declared.net.NetId.{NetId}
-use Rattle.ht_net.specs.Netlist.{Netlist, Gate, IsCircuit, net_count, gate_at, arg_at, no_net, no_gate}
-use Rattle.ht_net.specs.Levels.{times}
+use Rattle.ht_net.specs.Circuit.Netlist.{Netlist, Gate, IsCircuit, net_count, gate_at, arg_at, no_net, no_gate}
+use Rattle.ht_net.specs.Circuit.Levels.{times}
 use Rattle.ht_events.specs.declared.readers.NetRow.{NetRow}
 use Rattle.ht_events.specs.Items.{IsDffOn, IsGateOn, ReadsNet}
 use Rattle.ht_events.specs.NetRows.{no_row, row_of, readers_in, lists_of, AreNetRows}

@@ -1,7 +1,7 @@
 -- The order in which the items of a frame are fired, and a table of what reads each net.
 use Rattle.std.specs.Prelude.{◌≡◌, ◌+◌, ℕ, List, [], length, get_or, cond, ltb}
 use Rattle.std.specs.List.{Contains}
-use Rattle.ht_net.specs.Netlist.{Netlist, IsCircuit, net_count}
+use Rattle.ht_net.specs.Circuit.Netlist.{Netlist, IsCircuit, net_count}
 use Rattle.ht_events.specs.Ranks.{AreRanked}
 use Rattle.ht_events.specs.Items.{frame_items, ReadsNet}
 use Rattle.ht_events.specs.declared.frame_plan.FramePlan.TheInside.{Inside}

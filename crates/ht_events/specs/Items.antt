@@ -1,6 +1,6 @@
 -- The items of a core: in each frame the flip-flops and then the gates. Item l of a frame drives net inputs + l.
 use Rattle.std.specs.Prelude.{◌≡◌, ◌<◌, ◌≤◌, ◌+◌, ◌-◌, ◌*◌, ◌/◌, ◌%◌, ◌⊎◌, ℕ, length, get_or, cond, ltb}
-use Rattle.ht_net.specs.Netlist.{Netlist, gate_at, arg_at, no_net}
+use Rattle.ht_net.specs.Circuit.Netlist.{Netlist, gate_at, arg_at, no_net}
 
 -- how many items one frame has: its flip-flops and its gates
 abbrev pub frame_items : Netlist → ℕ

@@ -1,7 +1,7 @@
 -- Rows of readers, one for each net, in one flat list.
 use Rattle.std.specs.Prelude.{◌≡◌, ◌<◌, ◌≤◌, ◌+◌, ◌-◌, ℕ, List, length, get_or, map, take, drop}
-use Rattle.ht_net.specs.Netlist.{Netlist}
-use Rattle.ht_net.specs.Levels.{loads_of}
+use Rattle.ht_net.specs.Circuit.Netlist.{Netlist}
+use Rattle.ht_net.specs.Circuit.Levels.{loads_of}
 use Rattle.ht_events.specs.declared.readers.NetRow.{NetRow}
 
 -- the row that stands where there is none

@@ -1,6 +1,6 @@
 -- The order in which the items of all frames are fired.
 use Rattle.std.specs.Prelude.{◌≡◌, ◌<◌, ◌≤◌, ◌+◌, ◌*◌, ℕ, List, length, get_or}
-use Rattle.ht_net.specs.Netlist.{Netlist}
+use Rattle.ht_net.specs.Circuit.Netlist.{Netlist}
 use Rattle.ht_events.specs.Items.{IsLoad, frame_items, frame_of, item_count, local_of}
 use Rattle.ht_events.specs.declared.plan.Plan.TheInside.{Inside}
 pub use Rattle.ht_events.specs.FrameLengths.{max_frames}

@@ -1,6 +1,6 @@
 -- Sources and gates in the order in which they get their values, and the rank of each.
 use Rattle.std.specs.Prelude.{◌≡◌, ◌<◌, ◌+◌, ℕ, List, length, get_or}
-use Rattle.ht_net.specs.Netlist.{Netlist, first_gate_net, gate_at, arg_at}
+use Rattle.ht_net.specs.Circuit.Netlist.{Netlist, first_gate_net, gate_at, arg_at}
 
 -- Gate g reads number m at a pin. The numbers count the last so many sources, and then the gates.
 pub record ReadsNumber (c : Netlist) (sources g m : ℕ) : Type 0 where

@@ -1,7 +1,7 @@
 -- The order in which nets get their values, and what reads each net.
 use Rattle.std.specs.Prelude.{◌≡◌, ◌<◌, ◌≤◌, ◌-◌, ℕ, List, [], length, get_or}
 use Rattle.std.specs.List.{Contains}
-use Rattle.ht_net.specs.Netlist.{Netlist, first_gate_net, net_count, gate_at, arg_at, IsCircuit}
+use Rattle.ht_net.specs.Circuit.Netlist.{Netlist, first_gate_net, net_count, gate_at, arg_at, IsCircuit}
 use Rattle.ht_events.specs.Ranks.{AreRanked}
 use Rattle.ht_events.specs.Items.{driven_net}
 use Rattle.ht_events.specs.declared.schedule.Schedule.{Schedule}

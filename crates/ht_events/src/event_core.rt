@@ -1,6 +1,6 @@
 //! The items that are pending, and what fires them.
 ghost use Rattle.std.specs.Prelude.{◌≡◌, ℕ, ◌<◌, ◌≤◌, ◌+◌, ◌*◌, true, false, length, get_or, set, IfOk, OnOk, OnErr, IfSome, IfNone, ◌⊎◌};
-ghost use Rattle.ht_net.specs.Netlist.{net_count};
+ghost use Rattle.ht_net.specs.Circuit.Netlist.{net_count};
 ghost use Rattle.ht_events.specs.Items.{IsLoad, IsReader, frame_items, item_at, item_count};
 ghost use Rattle.ht_events.specs.Plans.{StandsAt, position_at};
 ghost use Rattle.ht_events.specs.Firings.{GoesOn, IsFired};

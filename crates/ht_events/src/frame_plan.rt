@@ -1,6 +1,6 @@
 //! What reads what in one frame, and in which order its items are fired.
 ghost use Rattle.std.specs.Prelude.{◌≡◌, ◌<◌, ◌*◌, [], IfOk, length, get_or};
-ghost use Rattle.ht_net.specs.Netlist.{IsCircuit, net_count};
+ghost use Rattle.ht_net.specs.Circuit.Netlist.{IsCircuit, net_count};
 ghost use Rattle.ht_events.specs.Ranks.{AreRanked};
 ghost use Rattle.ht_events.specs.Items.{frame_items, frame_of, local_of, driven_net};
 ghost use Rattle.ht_events.specs.FramePlans.{IsOffsetTable};

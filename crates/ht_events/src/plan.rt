@@ -1,6 +1,6 @@
 //! What reads what, and in which order items are fired.
 ghost use Rattle.std.specs.Prelude.{◌≡◌, ℕ, ◌<◌, ◌≤◌, ◌+◌, ◌-◌, ◌*◌, ◌^◌, [], length, get_or};
-ghost use Rattle.ht_net.specs.Netlist.{IsCircuit, net_count};
+ghost use Rattle.ht_net.specs.Circuit.Netlist.{IsCircuit, net_count};
 ghost use Rattle.ht_events.specs.Items.{IsLoad, frame_items, item_at, item_count, frame_of, local_of, driven_net};
 ghost use Rattle.ht_events.specs.FramePlans.{IsOffsetTable};
 ghost use Rattle.ht_events.specs.Plans.{AreApart, StandsAt, position_at};

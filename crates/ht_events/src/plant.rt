@@ -1,6 +1,6 @@
 //! What is kept up to date, item by item.
 ghost use Rattle.std.specs.Prelude.{◌≡◌, ◌↔◌, ℕ, ◌<◌, ◌≤◌, ◌+◌, false, OnOk, OnErr, Ok};
-ghost use Rattle.ht_net.specs.Netlist.{Netlist};
+ghost use Rattle.ht_net.specs.Circuit.Netlist.{Netlist};
 ghost use Rattle.ht_events.specs.Items.{IsLoad, frame_items, item_at, item_count};
 
 use std::alloc::AllocError;

@@ -1,7 +1,7 @@
 //! The ranks of what reads each net.
 ghost use Rattle.std.specs.Prelude.{◌≡◌, ◌<◌, ℕ, length, get_or, IfOk};
 ghost use Rattle.std.specs.List.{Contains};
-ghost use Rattle.ht_net.specs.Netlist.{net_count};
+ghost use Rattle.ht_net.specs.Circuit.Netlist.{net_count};
 ghost use Rattle.ht_events.specs.Items.{frame_items};
 ghost use Rattle.ht_events.specs.Schedules.{AreGateRanks, AreReaders, ReadsFrom};
 

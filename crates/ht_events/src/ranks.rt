@@ -1,6 +1,6 @@
 //! Sources and gates in order, and the rank of each.
 ghost use Rattle.std.specs.Prelude.{◌≡◌, ◌≢◌, ◌<◌, ◌≤◌, ◌+◌, ◌^◌, ℕ, length, get_or, IfOk};
-ghost use Rattle.ht_net.specs.Netlist.{IsCircuit, IsOrder, first_gate_net};
+ghost use Rattle.ht_net.specs.Circuit.Netlist.{IsCircuit, IsOrder, first_gate_net};
 ghost use Rattle.ht_events.specs.Ranks.{AreRanked};
 
 use ht_net::Circuit;

@@ -1,6 +1,6 @@
 //! What reads each net.
 ghost use Rattle.std.specs.Prelude.{◌≡◌, ℕ, ◌<◌, ◌≤◌, ◌+◌, ◌^◌, [], length, get_or, map, set, IfOk};
-ghost use Rattle.ht_net.specs.Netlist.{IsCircuit, net_count};
+ghost use Rattle.ht_net.specs.Circuit.Netlist.{IsCircuit, net_count};
 ghost use Rattle.ht_events.specs.NetRows.{AreEmptyRows, row_of};
 ghost use Rattle.ht_events.specs.FramePlans.{IsTable, offset_among};
 

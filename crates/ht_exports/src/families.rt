@@ -2,7 +2,7 @@
 //!
 //! A start crosses as a number for each flip-flop: 0, 1, or 2 for unknown. A family crosses as the bits of its sets.
 ghost use Rattle.std.specs.Prelude.{◌≡◌, length, IfOk, IfSome};
-ghost use Rattle.ht_net.specs.Detection.{IsStart};
+ghost use Rattle.ht_net.specs.Detect.Detection.{IsStart};
 
 use crate::answer::numbered;
 use crate::netlist::read_circuit;

@@ -3,8 +3,8 @@ use Rattle.std.proofs.Common.{◌≡◌, ◌<◌, ◌≤◌, ◌*◌, ◌-◌, �
 use Rattle.ht_tern.specs.declared.tern.Tern.{Tern}
 use Rattle.ht_pairs.specs.Pairs.{Pair, MayDiffer}
 use Rattle.ht_net.specs.declared.fault.Fault.{Fault}
-use Rattle.ht_net.specs.Netlist.{Netlist}
-use Rattle.ht_tree.specs.ClosedFamilies.{Closes, HoldsState, IncludesEach, shown_sets, taken_sets, Family}
+use Rattle.ht_net.specs.Circuit.Netlist.{Netlist}
+use Rattle.ht_tree.specs.Record.ClosedFamilies.{Closes, HoldsState, IncludesEach, shown_sets, taken_sets, Family}
 use Rattle.ht_families.specs.Families.{IsLeastClosing}
 use Rattle.ht_families.specs.FamilyFrames.{FrameView, after_family, size_of}
 use Rattle.ht_records.proofs.RunFamilyLaws.{shown_long}

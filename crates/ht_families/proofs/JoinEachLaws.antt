@@ -6,7 +6,7 @@ use Rattle.std.proofs.lemmas.List.Sums.{sum_by-cons, sum_by-set}
 use Rattle.ht_pairs.specs.Pairs.{Pair, IsMember}
 use Rattle.ht_pairs.specs.Included.{Includes, joined_set}
 use Rattle.ht_pairs.proofs.SetLaws.{member_right, set_of_holds}
-use Rattle.ht_tree.specs.ClosedFamilies.{IncludesEach, Family}
+use Rattle.ht_tree.specs.Record.ClosedFamilies.{IncludesEach, Family}
 use Rattle.ht_families.specs.FamilyFrames.{size_of}
 
 -- the sets below j are joined, and the others are as they were

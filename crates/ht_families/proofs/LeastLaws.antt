@@ -9,12 +9,12 @@ use Rattle.ht_pairs.specs.Pairs.{Pair, pair, IsMember, IsChoice, MayDiffer, lift
 use Rattle.ht_pairs.specs.Included.{Includes, joined_set}
 use Rattle.ht_pairs.proofs.SetLaws.{lifted_set_holds, map_member, member_either, member_left, member_map, set_of_holds}
 use Rattle.ht_net.specs.declared.fault.Fault.{Fault}
-use Rattle.ht_net.specs.Frame.{Rules}
-use Rattle.ht_net.specs.Netlist.{Netlist}
+use Rattle.ht_net.specs.Frames.Frame.{Rules}
+use Rattle.ht_net.specs.Circuit.Netlist.{Netlist}
 use Rattle.ht_net.proofs.FaultLaws.{rules_keep}
 use Rattle.ht_net.proofs.RelationLaws.{Preserves, get_related, next_related, outputs_related}
-use Rattle.ht_tree.specs.Windows.{pair_set_rules}
-use Rattle.ht_tree.specs.ClosedFamilies.{Closes, HoldsState, IncludesEach, any_vector, shown_sets, taken_sets, Family}
+use Rattle.ht_tree.specs.Window.Windows.{pair_set_rules}
+use Rattle.ht_tree.specs.Record.ClosedFamilies.{Closes, HoldsState, IncludesEach, any_vector, shown_sets, taken_sets, Family}
 use Rattle.ht_families.specs.Families.{start_family}
 use Rattle.ht_records.proofs.RunFamilyLaws.{shown_long, taken_long}
 

@@ -5,10 +5,10 @@ use Rattle.std.proofs.lemmas.List.{length-map}
 use Rattle.std.proofs.lemmas.List.FromFn.{length-map-range_with_len}
 use Rattle.ht_tern.specs.declared.tern.Tern.{Tern}
 use Rattle.ht_pairs.specs.Pairs.{Pair}
-use Rattle.ht_tree.specs.Rising.{Rises}
+use Rattle.ht_tree.specs.Record.Rising.{Rises}
 use Rattle.ht_tree.specs.declared.family_row.FamilyRow.{FamilyRow}
 use Rattle.ht_families.specs.Families.{start_family}
-use Rattle.ht_tree.specs.FamilyRows.{dffs_of, family_of, row_set, start_set}
+use Rattle.ht_tree.specs.Record.FamilyRows.{dffs_of, family_of, row_set, start_set}
 use Rattle.ht_families.proofs.LeastLaws.{start_at, start_long}
 
 -- a list with these sets is the family

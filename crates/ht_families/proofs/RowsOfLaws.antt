@@ -8,9 +8,9 @@ use Rattle.ht_tern.specs.declared.tern.Tern.TheVariants.{Unk}
 use Rattle.std.proofs.lemmas.List.Elements.{All-append, All-cons, All-nil}
 use Rattle.ht_pairs.specs.Pairs.{Pair, pair, set_of}
 use Rattle.ht_net.proofs.FrameLaws.{le_or_lt}
-use Rattle.ht_tree.specs.Rising.{Rises}
+use Rattle.ht_tree.specs.Record.Rising.{Rises}
 use Rattle.ht_tree.specs.declared.family_row.FamilyRow.{FamilyRow}
-use Rattle.ht_tree.specs.FamilyRows.{dffs_of, family_of, row_set, start_set}
+use Rattle.ht_tree.specs.Record.FamilyRows.{dffs_of, family_of, row_set, start_set}
 use Rattle.ht_families.proofs.RowLaws.{listed}
 
 -- a number more, above all others

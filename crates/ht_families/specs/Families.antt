@@ -3,8 +3,8 @@ use Rattle.std.specs.Prelude.{List, [], ◌∷◌, map}
 use Rattle.ht_tern.specs.declared.tern.Tern.{Tern}
 use Rattle.ht_pairs.specs.Pairs.{pair}
 use Rattle.ht_net.specs.declared.fault.Fault.{Fault}
-use Rattle.ht_net.specs.Netlist.{Netlist}
-use Rattle.ht_tree.specs.ClosedFamilies.{Closes, Family, IncludesEach}
+use Rattle.ht_net.specs.Circuit.Netlist.{Netlist}
+use Rattle.ht_tree.specs.Record.ClosedFamilies.{Closes, Family, IncludesEach}
 
 -- The family closes, and lies within every family that does.
 pub record IsLeastClosing (c : Netlist) (fault : Fault) (start : List Tern) (family : Family) : Type 0 where

@@ -4,10 +4,10 @@ use Rattle.std.specs.List.{sum_by}
 use Rattle.ht_tern.specs.declared.tern.Tern.TheVariants.{Unk}
 use Rattle.ht_pairs.specs.Pairs.{Pair, pair}
 use Rattle.ht_net.specs.declared.fault.Fault.{Fault}
-use Rattle.ht_net.specs.Netlist.{Netlist, IsCircuit, max_arguments, net_count}
-use Rattle.ht_net.specs.Frame.{values_at}
+use Rattle.ht_net.specs.Circuit.Netlist.{Netlist, IsCircuit, max_arguments, net_count}
+use Rattle.ht_net.specs.Frames.Frame.{values_at}
 use Rattle.ht_frame.specs.Values.{env_of}
-use Rattle.ht_tree.specs.ClosedFamilies.{Family, any_vector, shown_sets, taken_sets}
+use Rattle.ht_tree.specs.Record.ClosedFamilies.{Family, any_vector, shown_sets, taken_sets}
 use Rattle.ht_families.specs.declared.frame.FamilyFrame.TheInside.{Inside}
 
 -- A circuit and a fault, with what the outputs showed and the flip-flops took in the last frame.

@@ -1,7 +1,7 @@
 //! Whether a family closes.
 ghost use Rattle.std.specs.Prelude.{◌≡◌, ◌↔◌, IsTrue, length, IfOk};
-ghost use Rattle.ht_net.specs.Detection.{IsStart};
-ghost use Rattle.ht_tree.specs.ClosedFamilies.{Closes};
+ghost use Rattle.ht_net.specs.Detect.Detection.{IsStart};
+ghost use Rattle.ht_tree.specs.Record.ClosedFamilies.{Closes};
 
 use crate::frame::FamilyFrame;
 use crate::sets::{holds_state, includes_each};

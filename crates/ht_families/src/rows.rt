@@ -2,9 +2,9 @@
 ghost use Rattle.std.specs.Prelude.{◌≡◌, ◌≢◌, ◌↔◌, ◌<◌, ◌^◌, [], ℕ, IsTrue, length, get_or, IfOk};
 ghost use Rattle.std.specs.List.{All};
 ghost use Rattle.ht_pairs.specs.Pairs.{set_of};
-ghost use Rattle.ht_net.specs.Detection.{IsStart};
-ghost use Rattle.ht_tree.specs.Rising.{Rises};
-ghost use Rattle.ht_tree.specs.FamilyRows.{ClosesByRows, dffs_of, family_of, row_set, start_set};
+ghost use Rattle.ht_net.specs.Detect.Detection.{IsStart};
+ghost use Rattle.ht_tree.specs.Record.Rising.{Rises};
+ghost use Rattle.ht_tree.specs.Record.FamilyRows.{ClosesByRows, dffs_of, family_of, row_set, start_set};
 
 use crate::Family;
 use crate::check::closes;

@@ -1,7 +1,7 @@
 //! The least family that closes.
 ghost use Rattle.std.specs.Prelude.{IfOk, MatchOption};
-ghost use Rattle.ht_net.specs.Detection.{IsStart};
-ghost use Rattle.ht_tree.specs.ClosedFamilies.{Closes, Family};
+ghost use Rattle.ht_net.specs.Detect.Detection.{IsStart};
+ghost use Rattle.ht_tree.specs.Record.ClosedFamilies.{Closes, Family};
 ghost use Rattle.ht_families.specs.Families.{IsLeastClosing};
 
 use crate::Family;

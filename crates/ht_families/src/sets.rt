@@ -1,7 +1,7 @@
 //! Families as lists of sets.
 ghost use Rattle.std.specs.Prelude.{◌≡◌, ◌↔◌, ◌⊎◌, ◌<◌, ◌≤◌, ◌*◌, [], ℕ, IsTrue, length, get_or, IfOk};
 ghost use Rattle.ht_pairs.specs.Included.{joined_set};
-ghost use Rattle.ht_tree.specs.ClosedFamilies.{HoldsState, IncludesEach};
+ghost use Rattle.ht_tree.specs.Record.ClosedFamilies.{HoldsState, IncludesEach};
 ghost use Rattle.ht_families.specs.Families.{start_family};
 ghost use Rattle.ht_families.specs.FamilyFrames.{size_of};
 

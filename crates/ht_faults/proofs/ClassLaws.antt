@@ -2,7 +2,7 @@
 use Rattle.std.proofs.Common.{ext_get_or, ◌≡◌, ◌<◌, ℕ, List, length, get_or, sym, ◌∙◌, arith, inl, inr, subst}
 use Rattle.std.specs.Prelude.{◌↔◌}
 use Rattle.std.proofs.lemmas.Bool.{cases_lt}
-use Rattle.ht_net.specs.Netlist.{Netlist}
+use Rattle.ht_net.specs.Circuit.Netlist.{Netlist}
 use Rattle.ht_faults.specs.Sites.{faults_of}
 use Rattle.ht_faults.specs.Classes.{SameClass, itself, turned, joined, fault_at, IsRepresentative, AreClasses}
 use Rattle.ht_faults.specs.Leaders.{AreLeaders}

@@ -3,9 +3,9 @@ use Rattle.std.proofs.Common.{◌≡◌, ◌<◌, ◌≤◌, ◌+◌, ◌⊎◌,
 use Rattle.ht_net.specs.declared.fault.Site.{Site}
 use Rattle.ht_net.specs.declared.fault.Site.TheVariants.{Stem, DffPin, GatePin}
 use Rattle.ht_net.specs.declared.fault.Fault.{Fault}
-use Rattle.ht_net.specs.Netlist.{Netlist, first_gate_net, net_count, gate_at, arg_at, IsCircuit}
+use Rattle.ht_net.specs.Circuit.Netlist.{Netlist, first_gate_net, net_count, gate_at, arg_at, IsCircuit}
 use Rattle.ht_faults.specs.Sites.{is_fanout, IsFaultSite, faults_of}
-use Rattle.ht_net.specs.Levels.{loads_of}
+use Rattle.ht_net.specs.Circuit.Levels.{loads_of}
 use Rattle.ht_faults.proofs.MemberLaws.{fault_site}
 use Rattle.ht_faults.specs.Classes.{EquivalentPair, SameClass, itself, paired, turned, joined, fault_at, output_line}
 use Rattle.ht_faults.specs.Leaders.{stem_number, output_value, output_number, StayInClass, GateJoins, leader_after, leader_by, AreLeaders}

@@ -1,7 +1,7 @@
 -- The gates of an order, from the last to the first.
 use Rattle.std.proofs.Common.{◌≡◌, ◌≢◌, ◌<◌, ◌≤◌, ◌+◌, ◌*◌, ℕ, List, length, get_or, refl, sym, ◌∙◌, arith, inl, inr, subst}
 use Rattle.std.proofs.lemmas.Bool.{cases_eq}
-use Rattle.ht_net.specs.Netlist.{Netlist, first_gate_net, net_count, gate_at, arg_at, IsCircuit, IsOrder, IsReady}
+use Rattle.ht_net.specs.Circuit.Netlist.{Netlist, first_gate_net, net_count, gate_at, arg_at, IsCircuit, IsOrder, IsReady}
 use Rattle.ht_faults.specs.Classes.{SameClass, itself, fault_at}
 use Rattle.ht_faults.specs.Leaders.{stem_number, output_number, StayInClass, GateJoins, OthersStay}
 use Rattle.ht_faults.proofs.LoadLaws.{read_by}

@@ -5,9 +5,9 @@ use Rattle.std.proofs.lemmas.Bool.{eq-eqb, ne_eqb}
 use Rattle.std.proofs.lemmas.Bool.Decides.{eqb_tells}
 use Rattle.ht_tern.specs.declared.gate.Kind.{Kind}
 use Rattle.ht_net.specs.declared.fault.Site.TheVariants.{GatePin}
-use Rattle.ht_net.specs.Netlist.{Netlist, first_gate_net, net_count, gate_at, arg_at, IsCircuit}
-use Rattle.ht_net.specs.Frame.{Rules, pin_values, net_value_over, net_value, frame_outputs, next_state}
-use Rattle.ht_net.specs.Faults.{forced}
+use Rattle.ht_net.specs.Circuit.Netlist.{Netlist, first_gate_net, net_count, gate_at, arg_at, IsCircuit}
+use Rattle.ht_net.specs.Frames.Frame.{Rules, pin_values, net_value_over, net_value, frame_outputs, next_state}
+use Rattle.ht_net.specs.Frames.Faults.{forced}
 use Rattle.ht_net.proofs.Depth.{IsDepth}
 use Rattle.ht_net.proofs.FrameLaws.{IsSettled, frame_settled, settled_is_frame, value_same, pins_length, pins_get}
 use Rattle.ht_net.proofs.ValueLaws.{seen_same, taken_same}

@@ -9,11 +9,11 @@ use Rattle.ht_net.specs.declared.fault.Fault.{Fault}
 use Rattle.ht_net.specs.declared.place.Place.{Place}
 use Rattle.ht_net.specs.declared.fault.Site.{Site}
 use Rattle.ht_net.specs.declared.fault.Site.TheVariants.{GatePin}
-use Rattle.ht_net.specs.Netlist.{Netlist, first_gate_net, gate_at, arg_at, IsCircuit}
-use Rattle.ht_net.specs.Frame.{Rules, frame_outputs, next_state, run_outputs, run_state}
-use Rattle.ht_net.specs.Faults.{rules_of, tern_rules, bool_rules}
+use Rattle.ht_net.specs.Circuit.Netlist.{Netlist, first_gate_net, gate_at, arg_at, IsCircuit}
+use Rattle.ht_net.specs.Frames.Frame.{Rules, frame_outputs, next_state, run_outputs, run_state}
+use Rattle.ht_net.specs.Frames.Faults.{rules_of, tern_rules, bool_rules}
 use Rattle.ht_tern.specs.Opposite.{Opposite}
-use Rattle.ht_net.specs.Detection.{IsBefore, IsFirstFrom, output_from, outputs_from, terns_of}
+use Rattle.ht_net.specs.Detect.Detection.{IsBefore, IsFirstFrom, output_from, outputs_from, terns_of}
 use Rattle.ht_faults.specs.Sites.{is_fanout, faults_of}
 use Rattle.ht_faults.specs.Table.{equivalent_output}
 use Rattle.ht_faults.specs.Classes.{EquivalentPair, SameClass, itself, paired, turned, joined, output_line, fault_at, AreClasses}

@@ -8,7 +8,7 @@ use Rattle.std.proofs.lemmas.List.FromFn.{length-map-range_with_len, map-range_w
 use Rattle.std.proofs.lemmas.List.Sums.{length-filter, count_by-le-length, sum_by_more}
 use Rattle.ht_net.specs.declared.fault.Site.{Site}
 use Rattle.ht_net.specs.declared.fault.Site.TheVariants.{Stem, DffPin, GatePin}
-use Rattle.ht_net.specs.Netlist.{Netlist, Gate, net_count, pin_count, gate_at, no_gate, IsCircuit}
+use Rattle.ht_net.specs.Circuit.Netlist.{Netlist, Gate, net_count, pin_count, gate_at, no_gate, IsCircuit}
 use Rattle.ht_faults.specs.Sites.{stems_of}
 use Rattle.ht_faults.specs.Sites.{data_pins_of, pins_of_gate, gate_pins_of, circuit_lines, is_site, sites_of}
 

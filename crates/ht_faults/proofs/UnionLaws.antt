@@ -1,6 +1,6 @@
 -- Both faults of a pin's stem are united with those of the gate's output.
 use Rattle.std.proofs.Common.{◌≡◌, ◌<◌, ◌*◌, ℕ, List, Bool, true, false, Some, length, get_or, sym, ◌∙◌, ap, subst}
-use Rattle.ht_net.specs.Netlist.{Netlist, net_count, gate_at, arg_at, IsCircuit}
+use Rattle.ht_net.specs.Circuit.Netlist.{Netlist, net_count, gate_at, arg_at, IsCircuit}
 use Rattle.ht_faults.specs.Sites.{is_fanout}
 use Rattle.ht_faults.specs.Leaders.{stem_number, output_value, output_number, united, StayInClass, PinJoins, OthersStay}
 use Rattle.ht_faults.proofs.ValueUnionLaws.{unites, ValueJoins, value_united}

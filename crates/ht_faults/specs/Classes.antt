@@ -4,7 +4,7 @@ use Rattle.std.specs.List.{range_with_len}
 use Rattle.ht_net.specs.declared.fault.Site.{Site}
 use Rattle.ht_net.specs.declared.fault.Site.TheVariants.{Stem, GatePin}
 use Rattle.ht_net.specs.declared.fault.Fault.{Fault}
-use Rattle.ht_net.specs.Netlist.{Netlist, first_gate_net, gate_at, arg_at}
+use Rattle.ht_net.specs.Circuit.Netlist.{Netlist, first_gate_net, gate_at, arg_at}
 use Rattle.ht_faults.specs.Sites.{is_fanout, faults_of}
 use Rattle.ht_faults.specs.FaultList.{no_fault}
 use Rattle.ht_faults.specs.Table.{equivalent_output}

@@ -3,7 +3,7 @@ use Rattle.std.specs.Prelude.{◌<◌, ◌^◌, List, false, length}
 use Rattle.std.specs.List.{flat_map}
 use Rattle.ht_net.specs.declared.fault.Site.TheVariants.{Stem}
 use Rattle.ht_net.specs.declared.fault.Fault.{Fault}
-use Rattle.ht_net.specs.Netlist.{no_net}
+use Rattle.ht_net.specs.Circuit.Netlist.{no_net}
 use Rattle.ht_faults.specs.Sites.{site_faults}
 use Rattle.ht_faults.specs.declared.fault_list.FaultList.TheInside.{Inside}
 

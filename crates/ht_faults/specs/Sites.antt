@@ -4,8 +4,8 @@ use Rattle.std.specs.List.{filter, flat_map, range_with_len}
 use Rattle.ht_net.specs.declared.fault.Site.{Site}
 use Rattle.ht_net.specs.declared.fault.Site.TheVariants.{Stem, DffPin, GatePin}
 use Rattle.ht_net.specs.declared.fault.Fault.{Fault}
-use Rattle.ht_net.specs.Netlist.{Netlist, net_count, gate_at, arg_at, no_net}
-use Rattle.ht_net.specs.Levels.{loads_of}
+use Rattle.ht_net.specs.Circuit.Netlist.{Netlist, net_count, gate_at, arg_at, no_net}
+use Rattle.ht_net.specs.Circuit.Levels.{loads_of}
 
 -- The two faults of a site: stuck-at-0 and then stuck-at-1.
 abbrev pub site_faults : Site → List Fault

@@ -3,9 +3,9 @@ ghost use Rattle.std.specs.Prelude.{◌≡◌, ◌<◌, ℕ, List, Bool, Option,
 ghost use Rattle.ht_tern.specs.declared.tern.Tern.{Tern};
 ghost use Rattle.ht_net.specs.declared.fault.Fault.{Fault};
 ghost use Rattle.ht_net.specs.declared.place.Place.{Place};
-ghost use Rattle.ht_net.specs.Netlist.{Netlist, IsCircuit};
-ghost use Rattle.ht_net.specs.Faults.{tern_rules, bool_rules};
-ghost use Rattle.ht_net.specs.Detection.{IsFirstFrom};
+ghost use Rattle.ht_net.specs.Circuit.Netlist.{Netlist, IsCircuit};
+ghost use Rattle.ht_net.specs.Frames.Faults.{tern_rules, bool_rules};
+ghost use Rattle.ht_net.specs.Detect.Detection.{IsFirstFrom};
 ghost use Rattle.ht_faults.specs.Sites.{faults_of};
 ghost use Rattle.ht_faults.specs.Classes.{SameClass, AreClasses, fault_at};
 ghost use Rattle.ht_faults.specs.Alike.{RunAlike};

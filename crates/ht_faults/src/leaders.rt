@@ -1,6 +1,6 @@
 //! The leader of every fault.
 ghost use Rattle.std.specs.Prelude.{◌≡◌, ◌<◌, ◌*◌, ◌^◌, length, IfOk};
-ghost use Rattle.ht_net.specs.Netlist.{net_count};
+ghost use Rattle.ht_net.specs.Circuit.Netlist.{net_count};
 ghost use Rattle.ht_faults.specs.Sites.{IsFaultSite, faults_of};
 ghost use Rattle.ht_faults.specs.Leaders.{leader_by, AreLeaders};
 

@@ -1,7 +1,7 @@
 //! The fault sites of a circuit, from its counts of loads.
 ghost use Rattle.std.specs.Prelude.{◌≡◌, ◌<◌, ◌++◌, length, IfOk, OnOk};
 ghost use Rattle.std.specs.List.{filter};
-ghost use Rattle.ht_net.specs.Netlist.{net_count, IsCircuit};
+ghost use Rattle.ht_net.specs.Circuit.Netlist.{net_count, IsCircuit};
 ghost use Rattle.ht_faults.specs.Sites.{stems_of};
 ghost use Rattle.ht_faults.specs.Sites.{data_pins_of, pins_of_gate, gate_pins_of, is_fanout, is_site, sites_of};
 

@@ -1,6 +1,6 @@
 //! The leaders of the stems' faults, from the outputs back.
 ghost use Rattle.std.specs.Prelude.{◌≡◌, ◌<◌, ◌*◌, ℕ, length, get_or, IfOk};
-ghost use Rattle.ht_net.specs.Netlist.{net_count, gate_at, IsCircuit};
+ghost use Rattle.ht_net.specs.Circuit.Netlist.{net_count, gate_at, IsCircuit};
 ghost use Rattle.ht_faults.specs.Leaders.{stem_number, output_value, united, StayInClass, PinJoins, GateJoins, OthersStay};
 
 use crate::sites::has_fanout;

@@ -2,7 +2,7 @@
 ghost use Rattle.std.specs.Prelude.{◌≡◌, ◌≢◌, ◌<◌, ◌≤◌, ◌*◌, ◌↔◌, ℕ, length, get_or};
 ghost use Rattle.std.specs.List.{Contains};
 ghost use Rattle.ht_net.specs.declared.fault.Site.{Site};
-ghost use Rattle.ht_net.specs.Netlist.{Netlist, IsCircuit};
+ghost use Rattle.ht_net.specs.Circuit.Netlist.{Netlist, IsCircuit};
 ghost use Rattle.ht_faults.specs.Sites.{IsFaultSite, sites_of, faults_of};
 ghost use Rattle.ht_faults.specs.FaultList.{no_fault};
 

@@ -5,19 +5,19 @@ use Rattle.std.proofs.lemmas.List.Elements.{All-contains}
 use Rattle.ht_tern.specs.declared.tern.Tern.{Tern}
 use Rattle.ht_net.specs.declared.fault.Fault.{Fault}
 use Rattle.ht_net.specs.declared.place.Place.{Place}
-use Rattle.ht_net.specs.Detection.{Allows, DetectsFrom, IsStart}
-use Rattle.ht_net.specs.Netlist.{IsCircuit, Netlist}
+use Rattle.ht_net.specs.Detect.Detection.{Allows, DetectsFrom, IsStart}
+use Rattle.ht_net.specs.Circuit.Netlist.{IsCircuit, Netlist}
 use Rattle.ht_net.proofs.SilenceLaws.{sealed_undetected_from, silent_undetected_from, some_allowed}
 use Rattle.ht_faults.specs.Classes.{fault_at}
 use Rattle.ht_tree.specs.declared.clause.Clause.{Clause}
 use Rattle.ht_tree.specs.declared.entry.Entry.{Entry}
 use Rattle.ht_tree.specs.declared.kind.EntryKind.{EntryKind}
 use Rattle.ht_tree.specs.declared.kind.EntryKind.TheVariants as kinds
-use Rattle.ht_tree.specs.Budgets.{refutation_cost}
-use Rattle.ht_tree.specs.Clauses.{literals_of_each}
-use Rattle.ht_tree.specs.Entries.{kind_of}
-use Rattle.ht_tree.specs.Invariants.{IsInvariant}
-use Rattle.ht_tree.specs.SealedInClauses.{SealedIn}
+use Rattle.ht_tree.specs.Walk.Budgets.{refutation_cost}
+use Rattle.ht_tree.specs.Clause.Clauses.{literals_of_each}
+use Rattle.ht_tree.specs.Record.Entries.{kind_of}
+use Rattle.ht_tree.specs.Clause.Invariants.{IsInvariant}
+use Rattle.ht_tree.specs.Clause.SealedInClauses.{SealedIn}
 use Rattle.ht_records.proofs.FromLaws.{sealed_in_silent}
 use Rattle.ht_invariant.specs.declared.finding.Invariant.{Invariant}
 use Rattle.ht_texts.specs.declared.said.Said.{Said}

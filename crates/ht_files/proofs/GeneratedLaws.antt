@@ -1,6 +1,6 @@
 -- What a finished engine's report and the texts of its steps say is true.
 use Rattle.std.proofs.Common.{◌≡◌, ◌≤◌, ◌++◌, ◌+◌, ℕ, List, Some, true, ◌∙◌, length, refl, sym, ap, subst, length-append, arith}
-use Rattle.ht_net.specs.Netlist.{IsCircuit, Netlist}
+use Rattle.ht_net.specs.Circuit.Netlist.{IsCircuit, Netlist}
 use Rattle.ht_faults.specs.Sites.{faults_of}
 use Rattle.ht_faults.specs.Classes.{AreClasses}
 use Rattle.ht_ports.specs.LineRule.{max_text_bytes}

@@ -3,8 +3,8 @@ use Rattle.std.proofs.Common.{◌≡◌, ◌∙◌, ◌+◌, ℕ, List, Some, No
 use Rattle.std.specs.List.{Contains}
 use Rattle.ht_tree.specs.declared.entry.Entry.{Entry}
 use Rattle.ht_tree.specs.declared.kind.EntryKind.{EntryKind}
-use Rattle.ht_tree.specs.Entries.{kind_of}
-use Rattle.ht_tree.specs.Rising.{Rises}
+use Rattle.ht_tree.specs.Record.Entries.{kind_of}
+use Rattle.ht_tree.specs.Record.Rising.{Rises}
 use Rattle.ht_texts.specs.declared.said.Said.{Said}
 use Rattle.ht_texts.specs.declared.said.Said.TheVariants.{Detected, Untestable, Undetectable, Aborted, Undetected}
 use Rattle.ht_entries.specs.declared.numbered.Numbered.{Numbered}

@@ -3,14 +3,14 @@ use Rattle.std.proofs.Common.{◌≡◌, ◌<◌, ◌≤◌, ◌+◌, ◌-◌, �
 use Rattle.std.specs.List.{Contains}
 use Rattle.std.proofs.lemmas.List.Elements.{All-contains}
 use Rattle.ht_net.specs.declared.fault.Fault.{Fault}
-use Rattle.ht_net.specs.Netlist.{IsCircuit, Netlist}
+use Rattle.ht_net.specs.Circuit.Netlist.{IsCircuit, Netlist}
 use Rattle.ht_faults.specs.Sites.{faults_of}
 use Rattle.ht_faults.specs.Classes.{AreClasses, fault_at}
 use Rattle.ht_bench.proofs.AllLaws.{all_from}
 use Rattle.ht_ports.specs.LineRule.{max_text_bytes}
 use Rattle.ht_tree.specs.declared.entry.Entry.{Entry}
 use Rattle.ht_tree.specs.declared.entry.Entry.TheVariants as entries
-use Rattle.ht_tree.specs.Windows as window
+use Rattle.ht_tree.specs.Window.Windows as window
 use Rattle.ht_invariant.specs.declared.finding.Invariant.{Invariant}
 use Rattle.ht_texts.specs.declared.said.Said.{Said}
 use Rattle.ht_texts.specs.Reports.{report_text}

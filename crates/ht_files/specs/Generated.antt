@@ -1,11 +1,11 @@
 -- The headline: what the three files and the total line of a finished run say, and that it is true.
 use Rattle.std.specs.Prelude.{◌≡◌, ◌≤◌, ℕ, List, Bool, Some}
-use Rattle.ht_net.specs.Netlist.{Netlist}
+use Rattle.ht_net.specs.Circuit.Netlist.{Netlist}
 use Rattle.ht_faults.specs.Classes.{AreClasses, fault_at}
 use Rattle.ht_tree.specs.declared.clause.Clause.{Clause}
-use Rattle.ht_tree.specs.Budgets.{refutation_cost}
-use Rattle.ht_tree.specs.Clauses.{literals_of_each}
-use Rattle.ht_tree.specs.SealedInClauses.{SealedIn}
+use Rattle.ht_tree.specs.Walk.Budgets.{refutation_cost}
+use Rattle.ht_tree.specs.Clause.Clauses.{literals_of_each}
+use Rattle.ht_tree.specs.Clause.SealedInClauses.{SealedIn}
 use Rattle.ht_invariant.specs.declared.finding.Invariant.{Invariant}
 use Rattle.ht_texts.specs.declared.said.Said.{Said}
 use Rattle.ht_texts.specs.declared.said.Said.TheVariants.{Untestable}

@@ -1,6 +1,6 @@
 //! Laws of the files. Each theorem is the contract of a function that does nothing.
 ghost use Rattle.std.specs.Prelude.{◌≡◌, ◌++◌, ◌∷◌, [], ℕ, List};
-ghost use Rattle.ht_net.specs.Netlist.{Netlist, IsCircuit};
+ghost use Rattle.ht_net.specs.Circuit.Netlist.{Netlist, IsCircuit};
 ghost use Rattle.ht_bench.specs.Text.{IsNetlistOf};
 ghost use Rattle.ht_faults.specs.Classes.{AreClasses};
 ghost use Rattle.ht_texts.specs.Lines.{with_lf};

@@ -2,10 +2,10 @@
 use Rattle.std.proofs.Common.{ℕ, List, arith}
 use Rattle.ht_tern.specs.declared.tern.Tern.{Tern}
 use Rattle.ht_net.specs.declared.fault.Fault.{Fault}
-use Rattle.ht_net.specs.Netlist.{Netlist}
-use Rattle.ht_tree.specs.Reached.{IsTernState}
-use Rattle.ht_tree.specs.Searches.{node_at}
-use Rattle.ht_tree.specs.Windows.{forward_frames, forward_window}
+use Rattle.ht_net.specs.Circuit.Netlist.{Netlist}
+use Rattle.ht_tree.specs.Record.Reached.{IsTernState}
+use Rattle.ht_tree.specs.Walk.Searches.{node_at}
+use Rattle.ht_tree.specs.Window.Windows.{forward_frames, forward_window}
 use Rattle.ht_records.proofs.CompleteLaws.{complete_forward}
 use Rattle.ht_records.proofs.ShortWalkLaws.{spends_spent}
 use Rattle.ht_forward.specs.declared.ahead.Ahead.{Ahead}

@@ -2,19 +2,19 @@
 use Rattle.std.proofs.Common.{◌≡◌, ◌<◌, ◌≤◌, ◌+◌, ◌-◌, ℕ, List, [], Bool, true, length, refl, sym, ◌∙◌, ap, subst, arith}
 use Rattle.ht_tern.specs.declared.tern.Tern.{Tern}
 use Rattle.ht_net.specs.declared.fault.Fault.{Fault}
-use Rattle.ht_net.specs.Detection.{Detects}
-use Rattle.ht_net.specs.Netlist.{Netlist}
-use Rattle.ht_net.specs.Rows.{Rows}
+use Rattle.ht_net.specs.Detect.Detection.{Detects}
+use Rattle.ht_net.specs.Circuit.Netlist.{Netlist}
+use Rattle.ht_net.specs.Frames.Rows.{Rows}
 use Rattle.ht_tree.specs.declared.token.Assign3.{Assign3}
 use Rattle.ht_tree.specs.declared.window.Spot.{Spot}
 use Rattle.ht_tree.specs.declared.window.Status.TheVariants.{Sure}
-use Rattle.ht_tree.specs.Counts.{seeks_difference}
-use Rattle.ht_tree.specs.FoundLists.{list_of}
-use Rattle.ht_tree.specs.Places.{state_places}
-use Rattle.ht_tree.specs.Reached.{AreVectors, IsTernState, ShowsFrom}
-use Rattle.ht_tree.specs.Searches.{node_at}
-use Rattle.ht_tree.specs.WindowStatus.{difference_status, status_at, status_from}
-use Rattle.ht_tree.specs.Windows.{SearchWindow, Start, back, forward_window, one_frame, state_pair, sweep_window, token_weight, unknown}
+use Rattle.ht_tree.specs.Walk.Counts.{seeks_difference}
+use Rattle.ht_tree.specs.Walk.FoundLists.{list_of}
+use Rattle.ht_tree.specs.Window.Places.{state_places}
+use Rattle.ht_tree.specs.Record.Reached.{AreVectors, IsTernState, ShowsFrom}
+use Rattle.ht_tree.specs.Walk.Searches.{node_at}
+use Rattle.ht_tree.specs.Window.WindowStatus.{difference_status, status_at, status_from}
+use Rattle.ht_tree.specs.Window.Windows.{SearchWindow, Start, back, forward_window, one_frame, state_pair, sweep_window, token_weight, unknown}
 use Rattle.ht_records.proofs.FoundDifferenceLaws.{found_forward, found_sweep}
 use Rattle.ht_records.proofs.SpotLaws.{output_place, sure_place}
 use Rattle.ht_records.proofs.SureLaws.{list_length}

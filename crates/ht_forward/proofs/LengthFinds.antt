@@ -1,7 +1,7 @@
 -- A list that the next search finds.
 use Rattle.std.proofs.Common.{◌≤◌, ℕ, List, arith, subst}
-use Rattle.ht_net.specs.Rows.{Rows}
-use Rattle.ht_tree.specs.Searches.{Guide}
+use Rattle.ht_net.specs.Frames.Rows.{Rows}
+use Rattle.ht_tree.specs.Walk.Searches.{Guide}
 use Rattle.ht_tree.specs.declared.limits.TheConstants.{MAX_BUDGET}
 use Rattle.ht_tree.specs.declared.token.Token.{Token}
 use Rattle.ht_forward.specs.Lengths.{left_after}

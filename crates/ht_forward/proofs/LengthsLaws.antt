@@ -4,9 +4,9 @@ use Rattle.std.proofs.lemmas.List.{length_push, get_or_push, get_or_append_left}
 use Rattle.ht_events.specs.Plans.{max_frames}
 use Rattle.ht_tree.specs.declared.limits.TheConstants.{MAX_BUDGET}
 use Rattle.ht_tree.specs.declared.token.Token.{Token}
-use Rattle.ht_tree.specs.SearchRecords.{Fills, sweep_weight}
-use Rattle.ht_tree.specs.Searches.{Closes, Guide}
-use Rattle.ht_tree.specs.Walks.{IsComplete, IsOpen, Judge, weight_of}
+use Rattle.ht_tree.specs.Record.SearchRecords.{Fills, sweep_weight}
+use Rattle.ht_tree.specs.Walk.Searches.{Closes, Guide}
+use Rattle.ht_tree.specs.Walk.Walks.{IsComplete, IsOpen, Judge, weight_of}
 use Rattle.ht_forward.proofs.WeightLaws.{complete_weighs, least_weight, lengths_few, longest_weighs, weight_push}
 use Rattle.ht_forward.specs.Lengths.{CloseEach, IsLengthRecord, SpendEach, left_after}
 

@@ -3,14 +3,14 @@ use Rattle.std.proofs.Common.{◌≡◌, ◌+◌, ◌-◌, ◌++◌, ℕ, List, 
 use Rattle.std.proofs.lemmas.List.{length-append}
 use Rattle.ht_tern.specs.declared.tern.Tern.{Tern}
 use Rattle.ht_net.specs.declared.fault.Fault.{Fault}
-use Rattle.ht_net.specs.Detection.{Detects}
-use Rattle.ht_net.specs.Netlist.{Netlist}
-use Rattle.ht_net.specs.Rows.{Rows}
+use Rattle.ht_net.specs.Detect.Detection.{Detects}
+use Rattle.ht_net.specs.Circuit.Netlist.{Netlist}
+use Rattle.ht_net.specs.Frames.Rows.{Rows}
 use Rattle.ht_tree.specs.declared.token.Token.{Token}
-use Rattle.ht_tree.specs.SearchRecords.{IsSweepRecord}
-use Rattle.ht_tree.specs.Reached.{IsTernState}
-use Rattle.ht_tree.specs.Searches.{node_at}
-use Rattle.ht_tree.specs.Windows.{Start, state_pair, unknown}
+use Rattle.ht_tree.specs.Record.SearchRecords.{IsSweepRecord}
+use Rattle.ht_tree.specs.Record.Reached.{IsTernState}
+use Rattle.ht_tree.specs.Walk.Searches.{node_at}
+use Rattle.ht_tree.specs.Window.Windows.{Start, state_pair, unknown}
 use Rattle.ht_events.specs.Plans.{max_frames}
 use Rattle.ht_net.proofs.MoreToldLaws.{detects_later}
 use Rattle.ht_forward.specs.declared.sweeping.Swept.{Swept}

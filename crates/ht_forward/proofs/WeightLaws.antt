@@ -3,8 +3,8 @@ use Rattle.std.proofs.Common.{◌≡◌, ◌≢◌, ◌<◌, ◌≤◌, ◌+◌,
 use Rattle.std.proofs.Math.Nat.{mul-le-mul_right}
 use Rattle.ht_net.proofs.FrameLaws.{le_or_lt}
 use Rattle.ht_tree.specs.declared.token.Token.{Token}
-use Rattle.ht_tree.specs.SearchRecords.{sweep_weight}
-use Rattle.ht_tree.specs.Walks.{IsComplete, Judge, Node, weight_of}
+use Rattle.ht_tree.specs.Record.SearchRecords.{sweep_weight}
+use Rattle.ht_tree.specs.Walk.Walks.{IsComplete, Judge, Node, weight_of}
 use Rattle.ht_events.specs.Plans.{max_frames}
 
 -- one more walk adds its weight in the next window to the weight of the walks

@@ -2,20 +2,20 @@
 use Rattle.std.specs.Prelude.{◌≡◌, ◌<◌, ◌≤◌, ◌+◌, ◌-◌, ℕ, List, Bool, length}
 use Rattle.ht_tern.specs.declared.tern.Tern.{Tern}
 use Rattle.ht_net.specs.declared.fault.Fault.{Fault}
-use Rattle.ht_net.specs.Netlist.{Netlist}
-use Rattle.ht_net.specs.Rows.{Rows}
+use Rattle.ht_net.specs.Circuit.Netlist.{Netlist}
+use Rattle.ht_net.specs.Frames.Rows.{Rows}
 use Rattle.ht_tree.specs.declared.token.Assign3.{Assign3}
 use Rattle.ht_tree.specs.declared.token.Token.{Token}
 use Rattle.ht_tree.specs.declared.window.Spot.{Spot}
 use Rattle.ht_tree.specs.declared.window.Status.TheVariants.{Sure}
-use Rattle.ht_tree.specs.Walks.{IsComplete}
-use Rattle.ht_tree.specs.Windows.{SearchWindow, forward_frames, forward_window, token_weight}
-use Rattle.ht_tree.specs.WindowStatus.{status_at}
-use Rattle.ht_tree.specs.Nodes.{judge_of}
-use Rattle.ht_tree.specs.Searches.{FindsAt, Closes, SpendsAt, guide_of, node_at}
-use Rattle.ht_tree.specs.FoundLists.{list_of}
-use Rattle.ht_tree.specs.Reached.{AreVectors, ShowsFrom}
-use Rattle.ht_tree.specs.SearchRecords.{IsSpentWalk}
+use Rattle.ht_tree.specs.Walk.Walks.{IsComplete}
+use Rattle.ht_tree.specs.Window.Windows.{SearchWindow, forward_frames, forward_window, token_weight}
+use Rattle.ht_tree.specs.Window.WindowStatus.{status_at}
+use Rattle.ht_tree.specs.Window.Nodes.{judge_of}
+use Rattle.ht_tree.specs.Walk.Searches.{FindsAt, Closes, SpendsAt, guide_of, node_at}
+use Rattle.ht_tree.specs.Walk.FoundLists.{list_of}
+use Rattle.ht_tree.specs.Record.Reached.{AreVectors, ShowsFrom}
+use Rattle.ht_tree.specs.Record.SearchRecords.{IsSpentWalk}
 use Rattle.ht_forward.specs.declared.ahead.Ahead.{Ahead}
 use Rattle.ht_forward.specs.declared.ahead.Ahead.TheVariants.{Found, Closed, Spent}
 

@@ -1,9 +1,9 @@
 -- What the searches of 1 frame, 2 frames and so on answer.
 use Rattle.std.specs.Prelude.{◌≤◌, ℕ, List}
-use Rattle.ht_net.specs.Rows.{Rows}
+use Rattle.ht_net.specs.Frames.Rows.{Rows}
 use Rattle.ht_tree.specs.declared.token.Token.{Token}
-use Rattle.ht_tree.specs.Searches.{Closes, Guide, SpendsAt}
-use Rattle.ht_tree.specs.Walks.{Node}
+use Rattle.ht_tree.specs.Walk.Searches.{Closes, Guide, SpendsAt}
+use Rattle.ht_tree.specs.Walk.Walks.{Node}
 use Rattle.ht_events.specs.Plans.{max_frames}
 use Rattle.ht_forward.specs.Lengths.{CloseEach, SpendEach, left_after, next_length}
 use Rattle.ht_forward.specs.declared.lengths.OneLength.{OneLength}

@@ -2,13 +2,13 @@
 use Rattle.std.specs.Prelude.{◌≡◌, ◌+◌, ◌-◌, ℕ, List, [], ◌∷◌, ◌++◌, Bool, Some, length}
 use Rattle.ht_tern.specs.declared.tern.Tern.{Tern}
 use Rattle.ht_net.specs.declared.fault.Fault.{Fault}
-use Rattle.ht_net.specs.Netlist.{Netlist}
-use Rattle.ht_net.specs.Rows.{Rows}
-use Rattle.ht_net.specs.Detection.{Detects}
+use Rattle.ht_net.specs.Circuit.Netlist.{Netlist}
+use Rattle.ht_net.specs.Frames.Rows.{Rows}
+use Rattle.ht_net.specs.Detect.Detection.{Detects}
 use Rattle.ht_tree.specs.declared.token.Token.{Token}
-use Rattle.ht_tree.specs.Searches.{Guide, guide_of}
-use Rattle.ht_tree.specs.Windows.{SearchWindow, Start, unknown}
-use Rattle.ht_tree.specs.SearchRecords.{IsSweepRecord}
+use Rattle.ht_tree.specs.Walk.Searches.{Guide, guide_of}
+use Rattle.ht_tree.specs.Window.Windows.{SearchWindow, Start, unknown}
+use Rattle.ht_tree.specs.Record.SearchRecords.{IsSweepRecord}
 use Rattle.ht_events.specs.Plans.{max_frames}
 use Rattle.ht_forward.specs.declared.sweeping.Swept.{Swept}
 use Rattle.ht_forward.specs.declared.sweeping.Swept.TheVariants.{Found, Spent}

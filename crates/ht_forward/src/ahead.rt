@@ -2,11 +2,11 @@
 ghost use Rattle.std.specs.Prelude.{◌≡◌, ◌<◌, ◌≤◌, ℕ, [], true, Some, IfOk};
 ghost use Rattle.ht_tree.specs.declared.window.Spot.{Spot};
 ghost use Rattle.ht_tree.specs.declared.token.Status3.TheVariants as status3;
-ghost use Rattle.ht_tree.specs.Counts.{seeks_difference};
-ghost use Rattle.ht_tree.specs.Places.{state_places};
-ghost use Rattle.ht_tree.specs.Searches.{guide_of, node_at};
-ghost use Rattle.ht_tree.specs.Windows.{IsStart, token_weight};
-ghost use Rattle.ht_tree.specs.WindowStatus.{status_at, without_place};
+ghost use Rattle.ht_tree.specs.Walk.Counts.{seeks_difference};
+ghost use Rattle.ht_tree.specs.Window.Places.{state_places};
+ghost use Rattle.ht_tree.specs.Walk.Searches.{guide_of, node_at};
+ghost use Rattle.ht_tree.specs.Window.Windows.{IsStart, token_weight};
+ghost use Rattle.ht_tree.specs.Window.WindowStatus.{status_at, without_place};
 ghost use Rattle.ht_search.specs.Outcomes.{IsOutcome};
 ghost use Rattle.ht_window.specs.Starts.{start_of, window_from};
 ghost use Rattle.ht_forward.specs.AheadSearches.{IsAhead};

@@ -1,7 +1,7 @@
 //! Searches of 1 frame, 2 frames and so on, with one budget for all of them.
 ghost use Rattle.std.specs.Prelude.{◌≡◌, ◌<◌, ◌≤◌, ℕ, IfOk};
-ghost use Rattle.ht_net.specs.Rows.{Rows};
-ghost use Rattle.ht_tree.specs.Searches.{Guide};
+ghost use Rattle.ht_net.specs.Frames.Rows.{Rows};
+ghost use Rattle.ht_tree.specs.Walk.Searches.{Guide};
 ghost use Rattle.ht_forward.specs.LengthAnswers.{AreLengths, IsOneLength};
 
 use ht_events::MAX_FRAMES;

@@ -1,6 +1,6 @@
 //! The propagation of a difference from a pair of states.
 ghost use Rattle.std.specs.Prelude.{◌≡◌, length, IfOk};
-ghost use Rattle.ht_tree.specs.Windows.{forward_frames, forward_window};
+ghost use Rattle.ht_tree.specs.Window.Windows.{forward_frames, forward_window};
 ghost use Rattle.ht_forward.specs.AheadSearches.{AheadHolds, IsAhead};
 
 use crate::ahead::{Ahead, search_ahead};

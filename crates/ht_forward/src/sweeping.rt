@@ -1,8 +1,8 @@
 //! The sweep, from all-unknown or from a pair of states.
 ghost use Rattle.std.specs.Prelude.{◌≡◌, ◌<◌, ◌≤◌, [], ℕ, true, Some, length, IfOk};
-ghost use Rattle.ht_tree.specs.Counts.{seeks_difference};
-ghost use Rattle.ht_tree.specs.Places.{state_places};
-ghost use Rattle.ht_tree.specs.Windows.{IsStart, state_pair};
+ghost use Rattle.ht_tree.specs.Walk.Counts.{seeks_difference};
+ghost use Rattle.ht_tree.specs.Window.Places.{state_places};
+ghost use Rattle.ht_tree.specs.Window.Windows.{IsStart, state_pair};
 ghost use Rattle.ht_window.specs.Starts.{start_of};
 ghost use Rattle.ht_forward.specs.Sweeps.{FindsShort, IsSwept, IsSweptFrom, SweptHolds, SweptOnHolds};
 

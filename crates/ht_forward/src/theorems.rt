@@ -2,9 +2,9 @@
 ghost use Rattle.std.specs.Prelude.{◌≡◌, ◌<◌, ◌≤◌, ℕ, List, false, length};
 ghost use Rattle.ht_tern.specs.declared.tern.Tern.{Tern};
 ghost use Rattle.ht_tree.specs.declared.token.Token.{Token};
-ghost use Rattle.ht_tree.specs.Budgets.{sweep_cost};
-ghost use Rattle.ht_tree.specs.Searches.{IsOnTop};
-ghost use Rattle.ht_tree.specs.Walks.{AllFit, IsComplete, Judge, Node, path_of, root_stack, stack_after};
+ghost use Rattle.ht_tree.specs.Walk.Budgets.{sweep_cost};
+ghost use Rattle.ht_tree.specs.Walk.Searches.{IsOnTop};
+ghost use Rattle.ht_tree.specs.Walk.Walks.{AllFit, IsComplete, Judge, Node, path_of, root_stack, stack_after};
 ghost use Rattle.ht_records.proofs.BitPathLaws.{AnyVariable, AreBitsAt};
 ghost use Rattle.ht_forward.specs.Goals.{DeadAlong, Goal, HasBitsFor, guide_to};
 ghost use Rattle.ht_forward.specs.Lengths.{AreShort, IsLengthRecord};

@@ -7,9 +7,9 @@ use Rattle.ht_net.specs.declared.net.NetId.{NetId}
 use Rattle.ht_net.specs.declared.fault.Site.{Site}
 use Rattle.ht_net.specs.declared.fault.Site.TheVariants.{Stem, DffPin, GatePin}
 use Rattle.ht_net.specs.declared.fault.Fault.{Fault}
-use Rattle.ht_net.specs.Netlist.{no_net}
-use Rattle.ht_net.specs.Frame.{pin_values, values_at}
-use Rattle.ht_net.specs.Faults.{forced, is_pin, rules_of}
+use Rattle.ht_net.specs.Circuit.Netlist.{no_net}
+use Rattle.ht_net.specs.Frames.Frame.{pin_values, values_at}
+use Rattle.ht_net.specs.Frames.Faults.{forced, is_pin, rules_of}
 use Rattle.ht_frame.specs.StuckPins.{is_at_gate, is_pin_of}
 
 -- One more net is taken into the value that stands for the pins before it.

@@ -1,6 +1,6 @@
 //! What stems and pins make of the values that they carry.
 ghost use Rattle.std.specs.Prelude.{◌≡◌, Option};
-ghost use Rattle.ht_net.specs.Faults.{rules_of};
+ghost use Rattle.ht_net.specs.Frames.Faults.{rules_of};
 ghost use Rattle.ht_frame.specs.StuckPins.{is_at_gate};
 
 use crate::domain::Domain;

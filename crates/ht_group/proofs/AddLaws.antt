@@ -3,7 +3,7 @@ use Rattle.std.specs.Prelude.{set, flat_map, min}
 use Rattle.std.proofs.Common.{◌≡◌, ◌≢◌, ◌<◌, ◌≤◌, ◌+◌, ◌-◌, ◌*◌, ◌/◌, ◌∙◌, ℕ, List, [], ◌∷◌, ◌++◌, Bool, true, false, length, get_or, drop, ap, sym, subst, refl, arith, inl, inr}
 use Rattle.std.proofs.lemmas.Bool.{cases_eq}
 use Rattle.std.proofs.lemmas.List.{length-append, length-set, get_or-set_same, get_or-set_other}
-use Rattle.ht_net.specs.Netlist.{Netlist}
+use Rattle.ht_net.specs.Circuit.Netlist.{Netlist}
 use Rattle.ht_group.specs.GroupOf.{IsGroup}
 use Rattle.ht_group.specs.GroupView.{FaultyMachine}
 use Rattle.ht_group.specs.MachineWords.{AreFilled, HasOneMore, HasSame, IsWord, IsWordIn, machines_of}

@@ -8,7 +8,7 @@ use Rattle.ht_lanes.specs.Lanes.{Lanes, lane}
 use Rattle.ht_group.specs.declared.diffs.Diff.{Diff}
 use Rattle.ht_group.specs.Differences.{with_differences}
 use Rattle.ht_net.specs.declared.fault.Fault.{Fault}
-use Rattle.ht_net.specs.Netlist.{Netlist, net_count, IsCircuit}
+use Rattle.ht_net.specs.Circuit.Netlist.{Netlist, net_count, IsCircuit}
 use Rattle.ht_group.specs.GoodFrames.{IsGoodFrame}
 use Rattle.ht_group.specs.LaneRules.{rules_at, in_lane, lane_env, HasItsValue}
 use Rattle.ht_group.specs.MachineWords.{AreFirstChanged, AreMachinesKept, AreRunning, AreSameMachines, HaveRun, IsMachineAdded, IsBare, IsComputed, IsLaid, IsLaidOver, IsRestored, IsWord, machines_from, machines_of}

@@ -3,8 +3,8 @@
 use Rattle.std.proofs.Common.{◌≡◌, ◌<◌, ◌≤◌, ◌+◌, ◌-◌, ◌∙◌, ℕ, List, length, get_or, take, drop, ap, sym, subst, refl, arith, inl, inr}
 use Rattle.std.proofs.lemmas.Bool.Decides.{nat_tests}
 use Rattle.std.proofs.lemmas.List.{get_or-take, get_or-drop}
-use Rattle.ht_net.specs.Netlist.{Netlist, first_gate_net, net_count, arg_at, IsCircuit}
-use Rattle.ht_net.specs.Frame.{Rules, net_value, net_value_over, driver_value, gate_output}
+use Rattle.ht_net.specs.Circuit.Netlist.{Netlist, first_gate_net, net_count, arg_at, IsCircuit}
+use Rattle.ht_net.specs.Frames.Frame.{Rules, net_value, net_value_over, driver_value, gate_output}
 use Rattle.ht_net.proofs.FrameLaws.{le_or_lt, driven_input, driven_latch, driven_gate, gate_same, frame_settled, settled_is_frame}
 use Rattle.ht_net.proofs.DepthLaws.{circuit_depth}
 use Rattle.ht_group.specs.LaneRules.{drive_from, given_value, HasItsValue}

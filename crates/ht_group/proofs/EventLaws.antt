@@ -4,8 +4,8 @@ use Rattle.std.proofs.Common.{◌≡◌, ◌≢◌, ◌<◌, ◌≤◌, ◌+◌,
 use Rattle.std.proofs.lemmas.Bool.Decides.{eqb_tells, nat_tests}
 use Rattle.std.proofs.lemmas.Bool.{cases_eq, cases_lt}
 use Rattle.std.proofs.Math.Nat.{mul-le-mul_left}
-use Rattle.ht_net.specs.Netlist.{Netlist, first_gate_net, net_count}
-use Rattle.ht_net.specs.Frame.{Rules}
+use Rattle.ht_net.specs.Circuit.Netlist.{Netlist, first_gate_net, net_count}
+use Rattle.ht_net.specs.Frames.Frame.{Rules}
 use Rattle.ht_net.proofs.FrameLaws.{le_or_lt}
 use Rattle.ht_group.specs.LaneRules.{given_value, HasItsValue}
 use Rattle.ht_group.specs.Pending.{IsFired}

@@ -4,8 +4,8 @@ use Rattle.std.proofs.lemmas.Grind.{get_or_after_one}
 use Rattle.std.proofs.lemmas.List.{drop_more, get_or-take}
 use Rattle.ht_tern.specs.Gate.{folded}
 use Rattle.ht_net.specs.declared.net.NetId.{NetId}
-use Rattle.ht_net.specs.Netlist.{no_net}
-use Rattle.ht_net.specs.Frame.{values_at}
+use Rattle.ht_net.specs.Circuit.Netlist.{no_net}
+use Rattle.ht_net.specs.Frames.Frame.{values_at}
 
 -- one more net is folded in
 pub fold_next : {V : Type 0} → (op : V → V → V) (env : ℕ → V) (items : List NetId) (i : ℕ) (value next : V)

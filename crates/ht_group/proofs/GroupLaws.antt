@@ -7,9 +7,9 @@ use Rattle.std.proofs.lemmas.List.{drop-map}
 use Rattle.ht_tern.specs.declared.tern.Tern.{Tern}
 use Rattle.ht_tern.specs.declared.tern.Tern.TheVariants.{Unk}
 use Rattle.ht_lanes.specs.Lanes.{Lanes, lane}
-use Rattle.ht_net.specs.Netlist.{Netlist, net_count, IsCircuit}
-use Rattle.ht_net.specs.Frame.{net_value}
-use Rattle.ht_net.specs.Faults.{tern_rules}
+use Rattle.ht_net.specs.Circuit.Netlist.{Netlist, net_count, IsCircuit}
+use Rattle.ht_net.specs.Frames.Frame.{net_value}
+use Rattle.ht_net.specs.Frames.Faults.{tern_rules}
 use Rattle.ht_group.specs.GroupView.{FaultyMachine, GroupView, words_for}
 use Rattle.ht_group.specs.GroupOf.{IsGroup, group_of}
 use Rattle.ht_group.specs.MachineWords.{AreFilled, IsLaid, machines_of}

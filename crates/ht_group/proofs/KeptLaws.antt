@@ -9,9 +9,9 @@ use Rattle.ht_tern.specs.Gate.{gate_value, tern_of}
 use Rattle.ht_net.specs.declared.fault.Site.{Site}
 use Rattle.ht_net.specs.declared.fault.Site.TheVariants.{Stem, DffPin, GatePin}
 use Rattle.ht_net.specs.declared.fault.Fault.{Fault}
-use Rattle.ht_net.specs.Netlist.{Netlist, first_gate_net, gate_at}
-use Rattle.ht_net.specs.Frame.{gate_output}
-use Rattle.ht_net.specs.Faults.{forced, tern_rules, is_stem}
+use Rattle.ht_net.specs.Circuit.Netlist.{Netlist, first_gate_net, gate_at}
+use Rattle.ht_net.specs.Frames.Frame.{gate_output}
+use Rattle.ht_net.specs.Frames.Faults.{forced, tern_rules, is_stem}
 use Rattle.ht_net.proofs.FrameLaws.{le_or_lt}
 use Rattle.ht_group.specs.LaneRules.{rules_at, drive_from, given_value, HasItsValue}
 use Rattle.ht_frame.specs.StuckPins.{is_pin_of}

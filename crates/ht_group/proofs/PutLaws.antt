@@ -10,7 +10,7 @@ use Rattle.ht_tern.specs.declared.tern.Tern.TheVariants.{Unk}
 use Rattle.ht_lanes.specs.Lanes.{Lanes, lane}
 use Rattle.ht_group.specs.declared.diffs.Diff.{Diff}
 use Rattle.ht_group.specs.Differences.{held, value_but, with_differences}
-use Rattle.ht_net.specs.Netlist.{Netlist, first_gate_net, net_count}
+use Rattle.ht_net.specs.Circuit.Netlist.{Netlist, first_gate_net, net_count}
 use Rattle.ht_group.specs.LaneRules.{in_lane, lane_env}
 use Rattle.ht_group.specs.Overlays.{OverlayView}
 use Rattle.ht_group.specs.LatchWords.{HasDifferences}

@@ -2,9 +2,9 @@
 use Rattle.std.proofs.Common.{◌≡◌, ◌<◌, ◌+◌, ◌∙◌, ℕ, List, [], length, get_or, ap, sym, refl, arith, None}
 use Rattle.ht_tern.specs.declared.tern.Tern.{Tern}
 use Rattle.ht_tern.specs.declared.tern.Tern.TheVariants.{Unk}
-use Rattle.ht_net.specs.Netlist.{Netlist, no_net}
-use Rattle.ht_net.specs.Frame.{Rules, net_value, frame_outputs, next_state}
-use Rattle.ht_net.specs.Faults.{forced, tern_rules}
+use Rattle.ht_net.specs.Circuit.Netlist.{Netlist, no_net}
+use Rattle.ht_net.specs.Frames.Frame.{Rules, net_value, frame_outputs, next_state}
+use Rattle.ht_net.specs.Frames.Faults.{forced, tern_rules}
 use Rattle.ht_net.proofs.ValueLaws.{seen_get, taken_get}
 
 -- an output shows in a frame the value of its net

@@ -5,9 +5,9 @@ use Rattle.std.proofs.lemmas.Option.{slice_get_past}
 use Rattle.ht_tern.specs.declared.tern.Tern.{Tern}
 use Rattle.ht_tern.specs.declared.tern.Tern.TheVariants.{Unk}
 use Rattle.ht_net.specs.declared.fault.Fault.{Fault}
-use Rattle.ht_net.specs.Netlist.{Netlist, net_count, IsCircuit}
-use Rattle.ht_net.specs.Frame.{Rules, net_value}
-use Rattle.ht_net.specs.Faults.{tern_rules}
+use Rattle.ht_net.specs.Circuit.Netlist.{Netlist, net_count, IsCircuit}
+use Rattle.ht_net.specs.Frames.Frame.{Rules, net_value}
+use Rattle.ht_net.specs.Frames.Faults.{tern_rules}
 use Rattle.ht_group.specs.LaneRules.{rules_at, HasItsValue}
 use Rattle.ht_group.proofs.DriveLaws.{frame_has_values, drive_same, read_known}
 

@@ -15,8 +15,8 @@ use Rattle.ht_lanes.specs.Inverse.{lane_of_each}
 use Rattle.ht_net.specs.declared.fault.Site.{Site}
 use Rattle.ht_net.specs.declared.fault.Site.TheVariants.{Stem, DffPin, GatePin}
 use Rattle.ht_net.specs.declared.fault.Fault.{Fault}
-use Rattle.ht_net.specs.Netlist.{Netlist, net_count}
-use Rattle.ht_net.specs.Faults.{forced, is_stem, is_data_pin}
+use Rattle.ht_net.specs.Circuit.Netlist.{Netlist, net_count}
+use Rattle.ht_net.specs.Frames.Faults.{forced, is_stem, is_data_pin}
 use Rattle.ht_group.specs.GroupView.{HasSite}
 use Rattle.ht_items.specs.Bits.{with_bit}
 use Rattle.ht_frame.specs.StuckPins.{is_at_gate, is_pin_of}

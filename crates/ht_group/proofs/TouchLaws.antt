@@ -4,7 +4,7 @@ use Rattle.std.proofs.Common.{◌≡◌, ◌≢◌, ◌<◌, ◌∙◌, ℕ, Lis
 use Rattle.std.proofs.lemmas.Bool.{cases_eq}
 use Rattle.std.proofs.lemmas.List.{get_or-set_same, get_or-set_other}
 use Rattle.ht_net.specs.declared.fault.Site.{Site}
-use Rattle.ht_net.specs.Netlist.{Netlist, net_count}
+use Rattle.ht_net.specs.Circuit.Netlist.{Netlist, net_count}
 use Rattle.ht_events.specs.Schedules.{IsSchedule}
 use Rattle.ht_group.specs.StuckTables.{forced_net_of}
 use Rattle.ht_events.specs.declared.schedule.Schedule.{Schedule}

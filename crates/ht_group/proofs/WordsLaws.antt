@@ -4,7 +4,7 @@ use Rattle.std.proofs.Common.{◌≡◌, ◌<◌, ◌≤◌, ◌-◌, ◌*◌, �
 use Rattle.std.proofs.lemmas.Bool.{cases_lt}
 use Rattle.std.proofs.lemmas.List.{nil_from_length, get_or-replicate, get_or_past, length-replicate}
 use Rattle.ht_net.specs.declared.fault.Fault.{Fault}
-use Rattle.ht_net.specs.Netlist.{Netlist, net_count, IsCircuit}
+use Rattle.ht_net.specs.Circuit.Netlist.{Netlist, net_count, IsCircuit}
 use Rattle.ht_group.specs.GoodFrames.{IsGoodFrame}
 use Rattle.ht_group.specs.GroupOf.{IsGroup}
 use Rattle.ht_group.specs.GroupView.{words_for}

@@ -1,9 +1,9 @@
 -- A frame of the good machine, by the values of its nets.
 use Rattle.std.specs.Prelude.{◌≡◌, ◌<◌, ℕ, None, length, get_or, take, drop}
 use Rattle.ht_tern.specs.declared.tern.Tern.TheVariants.{Unk}
-use Rattle.ht_net.specs.Netlist.{Netlist, first_gate_net, net_count}
-use Rattle.ht_net.specs.Frame.{net_value}
-use Rattle.ht_net.specs.Faults.{tern_rules}
+use Rattle.ht_net.specs.Circuit.Netlist.{Netlist, first_gate_net, net_count}
+use Rattle.ht_net.specs.Frames.Frame.{net_value}
+use Rattle.ht_net.specs.Frames.Faults.{tern_rules}
 use Rattle.ht_group.specs.declared.good_frame.GoodFrame.{GoodFrame}
 
 -- there is room for the sources, for the value of each net and for the pins of a gate

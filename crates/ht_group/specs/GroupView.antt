@@ -6,9 +6,9 @@ use Rattle.ht_tern.specs.declared.tern.Tern.TheVariants.{Unk}
 use Rattle.ht_net.specs.declared.fault.Site.{Site}
 use Rattle.ht_net.specs.declared.fault.Site.TheVariants.{Stem, DffPin, GatePin}
 use Rattle.ht_net.specs.declared.fault.Fault.{Fault}
-use Rattle.ht_net.specs.Netlist.{Netlist, net_count}
-use Rattle.ht_net.specs.Frame.{frame_outputs, next_state}
-use Rattle.ht_net.specs.Faults.{tern_rules}
+use Rattle.ht_net.specs.Circuit.Netlist.{Netlist, net_count}
+use Rattle.ht_net.specs.Frames.Frame.{frame_outputs, next_state}
+use Rattle.ht_net.specs.Frames.Faults.{tern_rules}
 use Rattle.ht_group.specs.declared.diffs.Diff.{Diff}
 
 -- A machine with a fault, and what its flip-flops hold before the frame.

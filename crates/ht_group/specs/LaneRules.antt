@@ -5,9 +5,9 @@ use Rattle.ht_tern.specs.declared.tern.Tern.{Tern}
 use Rattle.ht_tern.specs.declared.tern.Tern.TheVariants.{Unk}
 use Rattle.ht_lanes.specs.Lanes.{Lanes, lane}
 use Rattle.ht_net.specs.declared.fault.Fault.{Fault}
-use Rattle.ht_net.specs.Netlist.{Netlist, first_gate_net}
-use Rattle.ht_net.specs.Frame.{Rules, gate_output}
-use Rattle.ht_net.specs.Faults.{tern_rules}
+use Rattle.ht_net.specs.Circuit.Netlist.{Netlist, first_gate_net}
+use Rattle.ht_net.specs.Frames.Frame.{Rules, gate_output}
+use Rattle.ht_net.specs.Frames.Faults.{tern_rules}
 
 -- the rules of the machine in lane k: the one with the k-th fault, or the good machine where there are fewer faults
 abbrev pub rules_at : List Fault → ℕ → Rules Tern

@@ -3,7 +3,7 @@ use Rattle.std.specs.Prelude.{◌≡◌, ◌≢◌, ◌<◌, ℕ, List, Bool, tr
 use Rattle.ht_lanes.specs.Lanes.{Lanes}
 use Rattle.ht_group.specs.declared.diffs.Diff.{Diff}
 use Rattle.ht_group.specs.Differences.{with_differences}
-use Rattle.ht_net.specs.Netlist.{Netlist, first_gate_net, net_count}
+use Rattle.ht_net.specs.Circuit.Netlist.{Netlist, first_gate_net, net_count}
 use Rattle.ht_group.specs.LaneRules.{in_lane, lane_env}
 use Rattle.ht_group.specs.Overlays.{OverlayView}
 use Rattle.ht_events.specs.declared.schedule.Schedule.{Schedule}

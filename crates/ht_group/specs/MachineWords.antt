@@ -4,7 +4,7 @@ use Rattle.ht_group.specs.declared.diffs.Diff.{Diff}
 use Rattle.ht_group.specs.Differences.{with_differences}
 use Rattle.ht_lanes.specs.Lanes.{Lanes}
 use Rattle.ht_net.specs.declared.fault.Fault.{Fault}
-use Rattle.ht_net.specs.Netlist.{Netlist, first_gate_net, net_count}
+use Rattle.ht_net.specs.Circuit.Netlist.{Netlist, first_gate_net, net_count}
 use Rattle.ht_group.specs.GroupView.{FaultyMachine, lane_count}
 use Rattle.ht_group.specs.LaneRules.{in_lane, lane_env}
 use Rattle.ht_group.specs.LatchWords.{HasDifferences}

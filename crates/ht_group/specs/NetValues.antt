@@ -2,9 +2,9 @@
 use Rattle.std.specs.Prelude.{◌≡◌, ◌<◌, ℕ, List, Some, None, get_or}
 use Rattle.ht_tern.specs.declared.tern.Tern.{Tern}
 use Rattle.ht_net.specs.declared.net.NetId.{NetId}
-use Rattle.ht_net.specs.Netlist.{Netlist, net_count, no_net}
-use Rattle.ht_net.specs.Frame.{net_value}
-use Rattle.ht_net.specs.Faults.{tern_rules}
+use Rattle.ht_net.specs.Circuit.Netlist.{Netlist, net_count, no_net}
+use Rattle.ht_net.specs.Frames.Frame.{net_value}
+use Rattle.ht_net.specs.Frames.Faults.{tern_rules}
 use Rattle.ht_group.specs.GroupView.{FaultyMachine, GroupView}
 
 -- in the good machine, and in a faulty one

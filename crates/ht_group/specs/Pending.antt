@@ -3,7 +3,7 @@ use Rattle.std.specs.Prelude.{◌≡◌, ◌≢◌, ◌<◌, ℕ, List, Bool, tr
 use Rattle.ht_tern.specs.declared.tern.Tern.{Tern}
 use Rattle.ht_lanes.specs.Lanes.{Lanes}
 use Rattle.ht_net.specs.declared.fault.Fault.{Fault}
-use Rattle.ht_net.specs.Netlist.{Netlist, net_count}
+use Rattle.ht_net.specs.Circuit.Netlist.{Netlist, net_count}
 use Rattle.ht_group.specs.LaneRules.{rules_at, in_lane, lane_env, given_value, HasItsValue}
 use Rattle.ht_events.specs.Schedules.{ReadsFrom}
 use Rattle.ht_events.specs.declared.schedule.Schedule.{Schedule}

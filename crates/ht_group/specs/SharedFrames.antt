@@ -1,6 +1,6 @@
 -- What the words of a group share in a frame.
 use Rattle.std.specs.Prelude.{◌≡◌, ℕ, true, false, length, get_or}
-use Rattle.ht_net.specs.Netlist.{IsCircuit, net_count}
+use Rattle.ht_net.specs.Circuit.Netlist.{IsCircuit, net_count}
 use Rattle.ht_events.specs.Schedules.{IsSchedule}
 use Rattle.ht_group.specs.GoodFrames.{IsGoodFrame}
 use Rattle.ht_group.specs.declared.shared_frame.SharedFrame.{SharedFrame}

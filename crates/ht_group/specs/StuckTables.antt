@@ -5,7 +5,7 @@ use Rattle.ht_items.specs.Bits.{is_set}
 use Rattle.ht_net.specs.declared.fault.Site.{Site}
 use Rattle.ht_net.specs.declared.fault.Site.TheVariants.{Stem, DffPin, GatePin}
 use Rattle.ht_net.specs.declared.fault.Fault.{Fault}
-use Rattle.ht_net.specs.Netlist.{Netlist, first_gate_net, net_count, IsCircuit}
+use Rattle.ht_net.specs.Circuit.Netlist.{Netlist, first_gate_net, net_count, IsCircuit}
 use Rattle.ht_frame.specs.StuckPins.{is_at_gate}
 use Rattle.ht_group.specs.GroupView.{HasSite, lane_count}
 use Rattle.ht_group.specs.declared.stuck_lines.StuckLines.{StuckLines}

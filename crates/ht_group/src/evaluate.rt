@@ -2,8 +2,8 @@
 ghost use Rattle.std.specs.Prelude.{◌≡◌, ◌<◌, ◌≤◌, ◌+◌, ◌&&◌, ◌==◌, ℕ, length, get_or, if◌then◌else◌};
 ghost use Rattle.ht_tern.specs.Gate.{HasArity, gate_value_over, operation_of, polarity_of, tern_of};
 ghost use Rattle.ht_lanes.specs.Lanes.{Lanes, lane, lane_operations};
-ghost use Rattle.ht_net.specs.Netlist.{first_gate_net, net_count, no_net};
-ghost use Rattle.ht_net.specs.Frame.{gate_output, values_at};
+ghost use Rattle.ht_net.specs.Circuit.Netlist.{first_gate_net, net_count, no_net};
+ghost use Rattle.ht_net.specs.Frames.Frame.{gate_output, values_at};
 ghost use Rattle.ht_frame.specs.Values.{env_of};
 ghost use Rattle.ht_group.specs.LaneRules.{lane_env, rules_at};
 ghost use Rattle.ht_pairs.specs.Places.{place_of};

@@ -1,7 +1,7 @@
 //! One pass of events over the nets, in the order of the schedule.
 ghost use Rattle.std.specs.Prelude.{◌≡◌, ◌≢◌, ◌<◌, ◌≤◌, ◌*◌, ℕ, true, false, length, get_or, All, if◌then◌else◌, nat_lt};
 ghost use Rattle.std.specs.List.{Contains};
-ghost use Rattle.ht_net.specs.Netlist.{first_gate_net, net_count};
+ghost use Rattle.ht_net.specs.Circuit.Netlist.{first_gate_net, net_count};
 ghost use Rattle.ht_group.specs.GroupView.{max_words};
 ghost use Rattle.ht_group.specs.LaneRules.{lane_env};
 ghost use Rattle.ht_group.specs.MachineWords.{AreFirstChanged, AreRunning, HasRunRoom, HaveRunRoom, HaveRun, IsComputed};

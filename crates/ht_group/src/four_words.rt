@@ -1,8 +1,8 @@
 //! The net of a gate in four words of machines at once.
 ghost use Rattle.std.specs.Prelude.{◌≡◌, ◌<◌, ◌≤◌, ◌-◌, [], ℕ, true, length, get_or};
 ghost use Rattle.ht_lanes.specs.Lanes.{lane, word_at};
-ghost use Rattle.ht_net.specs.Frame.{gate_output};
-ghost use Rattle.ht_net.specs.Netlist.{first_gate_net, net_count, no_net};
+ghost use Rattle.ht_net.specs.Frames.Frame.{gate_output};
+ghost use Rattle.ht_net.specs.Circuit.Netlist.{first_gate_net, net_count, no_net};
 ghost use Rattle.ht_group.specs.LaneRules.{drive_from, in_lane, lane_env, rules_at};
 ghost use Rattle.ht_group.specs.MachineWords.{AreFirstChanged, HaveFreePins, HasRunRoom, HaveRunRoom, IsComputed};
 ghost use Rattle.ht_group.specs.declared.machines.Machines.{Machines};

@@ -1,7 +1,7 @@
 //! One frame of the good machine.
 ghost use Rattle.std.specs.Prelude.{◌≡◌, ◌+◌, ◌++◌, None, length, IfOk};
 ghost use Rattle.ht_tern.specs.declared.tern.Tern.TheVariants.{Unk};
-ghost use Rattle.ht_net.specs.Detection.{terns_of};
+ghost use Rattle.ht_net.specs.Detect.Detection.{terns_of};
 ghost use Rattle.ht_group.specs.GoodFrames.{HasFrameRoom, IsGoodFrame};
 
 use ht_frame::{MAX_GATE_PINS, settle};

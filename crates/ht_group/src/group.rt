@@ -2,8 +2,8 @@
 ghost use Rattle.std.specs.Prelude.{◌≡◌, ◌<◌, ◌≤◌, ◌*◌, ◌++◌, ◌∷◌, [], ℕ, true, false, length, get_or, IfOk, OnOk, OnErr};
 ghost use Rattle.ht_tern.specs.declared.tern.Tern.TheVariants.{Unk};
 ghost use Rattle.ht_tern.specs.Opposite.{are_opposite};
-ghost use Rattle.ht_net.specs.Netlist.{net_count};
-ghost use Rattle.ht_net.specs.Detection.{terns_of};
+ghost use Rattle.ht_net.specs.Circuit.Netlist.{net_count};
+ghost use Rattle.ht_net.specs.Detect.Detection.{terns_of};
 ghost use Rattle.ht_items.specs.Bits.{is_set};
 ghost use Rattle.ht_lanes.specs.Lanes.{lane};
 ghost use Rattle.ht_group.specs.Differences.{with_differences};

@@ -1,6 +1,6 @@
 //! The machines of a word, one a lane.
 ghost use Rattle.std.specs.Prelude.{◌≡◌, ◌≢◌, ◌<◌, ◌+◌, ◌&&◌, ◌==◌, [], ℕ, Some, true, false, length, get_or, set, if◌then◌else◌, IfOk, OnOk, OnErr};
-ghost use Rattle.ht_net.specs.Netlist.{first_gate_net, net_count};
+ghost use Rattle.ht_net.specs.Circuit.Netlist.{first_gate_net, net_count};
 ghost use Rattle.ht_group.specs.GoodFrames.{HasFrameRoom};
 ghost use Rattle.ht_group.specs.GroupView.{AreLatches, HasSite, lane_count};
 ghost use Rattle.ht_group.specs.LatchWords.{HasDifferences};

@@ -1,6 +1,6 @@
 //! The lines that are stuck, each in the lanes of its faults.
 ghost use Rattle.std.specs.Prelude.{◌≡◌, ◌<◌, ◌-◌, ◌+◌, ◌++◌, ◌∷◌, [], ℕ, length, get_or, set, take, IfOk, OnOk, OnErr};
-ghost use Rattle.ht_net.specs.Netlist.{net_count};
+ghost use Rattle.ht_net.specs.Circuit.Netlist.{net_count};
 ghost use Rattle.ht_group.specs.GroupView.{HasSite, lane_count};
 ghost use Rattle.ht_lanes.specs.Lanes.{lane};
 ghost use Rattle.ht_group.specs.LaneRules.{rules_at};

@@ -21,8 +21,8 @@ pub use Rattle.ht_inputs.specs.declared.run_error.RunError.{RunError}
 pub use Rattle.ht_inputs.specs.declared.run_error.RunError.TheVariants.{BadResponses, BadTests, Denied, ReadFault}
 pub use Rattle.ht_inputs.specs.declared.run_error.RunError.TheVariants.{TooManyVectors, Usage, WriteFault}
 pub use Rattle.ht_judge.specs.declared.judge_error.JudgeError.{JudgeError}
-pub use Rattle.ht_net.specs.Detection.{unknown_state}
-pub use Rattle.ht_net.specs.Rows.{Rows}
+pub use Rattle.ht_net.specs.Detect.Detection.{unknown_state}
+pub use Rattle.ht_net.specs.Frames.Rows.{Rows}
 pub use Rattle.ht_ports.proofs.CallLaws.{after_trans}
 pub use Rattle.ht_ports.specs.Desk.{DeskView, InCall}
 pub use Rattle.ht_ports.specs.LineRule.{IsTooLongLine, lines_of, max_text_bytes, without_cr}

@@ -7,7 +7,7 @@ use Rattle.ht_inputs.proofs.Common.{IsInput, IsRefusedFor, JobBasis, ReadFault, 
 use Rattle.ht_inputs.proofs.Common.{Tern, Usage, WasRead, WriteFault, exit_status, input_name, one_circuit, order_of}
 use Rattle.ht_inputs.proofs.Common.{refused_port, respond}
 use Rattle.ht_ports.specs.declared.ports.InPort.TheVariants.{Netlist, Tests, Faults}
-use Rattle.ht_net.specs.Netlist as net
+use Rattle.ht_net.specs.Circuit.Netlist as net
 use Rattle.ht_faults.specs.Sites.{faults_of}
 use Rattle.ht_texts.specs.StartTexts.{IsMalformedStart}
 use Rattle.ht_texts.proofs.StartLaws.{start_or_malformed}

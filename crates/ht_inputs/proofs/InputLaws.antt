@@ -7,7 +7,7 @@ use Rattle.ht_inputs.proofs.Common.{IsMalformedResponse, IsRefusedFor, JobBasis,
 use Rattle.ht_inputs.proofs.Common.{TooManyVectors, Trouble, before_proofs, check, compact, diagnose, exit_status, gen}
 use Rattle.ht_inputs.proofs.Common.{input_name, one_circuit, order_of, refused_port, respond, sim, unknown_state}
 use Rattle.ht_ports.specs.declared.ports.InPort.TheVariants.{Netlist, Tests, Report, Proofs, Faults}
-use Rattle.ht_net.specs.Netlist as net
+use Rattle.ht_net.specs.Circuit.Netlist as net
 use Rattle.ht_faults.specs.Sites.{faults_of}
 use Rattle.ht_texts.specs.Tests.{IsMalformedTest, IsTestText}
 use Rattle.ht_texts.specs.StartTexts.{IsMalformedStart, IsStartText}

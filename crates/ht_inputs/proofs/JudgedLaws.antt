@@ -15,7 +15,7 @@ use Rattle.ht_ports.specs.LineRule.{NextLine}
 use Rattle.ht_ports.proofs.CallLaws.{in_call_trans}
 use Rattle.std.specs.Io.KnownBytes.{IsAtEnd}
 use Rattle.ht_texts.proofs.LinesSoFarLaws.{lines_end, lines_next, lines_start, read_lines_fit}
-use Rattle.ht_net.specs.Netlist.{Netlist}
+use Rattle.ht_net.specs.Circuit.Netlist.{Netlist}
 use Rattle.ht_inputs.specs.declared.run_error.RunError.TheVariants.{NoMemory}
 use Rattle.ht_inputs.specs.Reading.{IsReadFault}
 use Rattle.ht_inputs.specs.Judging.{StopsAtLong}

@@ -9,7 +9,7 @@ use Rattle.ht_inputs.proofs.Common.{JobBasis, JudgeError, LinesStop, Numbered, R
 use Rattle.ht_inputs.proofs.Common.{StandsForProofs, StopsAtLine, WasRead, before_proofs}
 use Rattle.ht_inputs.proofs.Common.{judged_error_of, line_text, lines_of, max_text_bytes, refused_port}
 use Rattle.ht_ports.specs.declared.ports.InPort.TheVariants as in_port
-use Rattle.ht_net.specs.Netlist.{Netlist}
+use Rattle.ht_net.specs.Circuit.Netlist.{Netlist}
 use Rattle.ht_entries.specs.declared.format.Format.{Format}
 use Rattle.ht_entries.specs.EntryLines.{proof_lines}
 use Rattle.ht_entries.specs.EntryTexts.{AreEntryTexts}

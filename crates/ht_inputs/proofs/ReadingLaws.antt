@@ -7,10 +7,10 @@ use Rattle.ht_inputs.proofs.Common.{HasReadTo, InCall, InPort, IsMalformedTest, 
 use Rattle.ht_inputs.proofs.Common.{ReadStops, RefusesInput, RunError, SaysBasis, StopsReading, Tern, TestsStop}
 use Rattle.ht_inputs.proofs.Common.{Usage, WasRead, WriteFault, after_trans, input_name, order_of, refused_port}
 use Rattle.ht_ports.specs.declared.ports.InPort.TheVariants.{Netlist, Tests, Report, Proofs, Faults}
-use Rattle.ht_net.specs.Netlist as net
+use Rattle.ht_net.specs.Circuit.Netlist as net
 use Rattle.ht_inputs.specs.declared.run_error.RunError.TheVariants.{NoMemory, NoSuchFault}
 use Rattle.ht_inputs.specs.Reading.{OnlyReads}
-use Rattle.ht_net.specs.Detection.{unknown_state}
+use Rattle.ht_net.specs.Detect.Detection.{unknown_state}
 use Rattle.ht_inputs.specs.Inputs.{HasFault, IsStated, IsUnread}
 use Rattle.ht_inputs.specs.Refusals.{NamesAbove}
 use Rattle.ht_inputs.specs.Jobs.{may_state_start, place_of}

@@ -9,7 +9,7 @@ use Rattle.ht_inputs.proofs.Common.{IsRefusedFor, JobBasis, JudgeError, LinesSto
 use Rattle.ht_inputs.proofs.Common.{Said, StandsForFile, StandsForReport, StopsAtLine, Tern, WasRead, check}
 use Rattle.ht_inputs.proofs.Common.{judged_error_of, lines_of}
 use Rattle.ht_ports.specs.declared.ports.InPort.TheVariants as in_port
-use Rattle.ht_net.specs.Netlist.{Netlist, IsCircuit}
+use Rattle.ht_net.specs.Circuit.Netlist.{Netlist, IsCircuit}
 use Rattle.ht_faults.specs.Classes.{is_representative}
 use Rattle.ht_texts.specs.declared.limits.TheConstants.{MAX_LINE_BYTES}
 use Rattle.ht_texts.specs.declared.item.Item.TheVariants.{Verdict, Member}

@@ -10,7 +10,7 @@ use Rattle.ht_inputs.proofs.Common.{IsMalformedResponse, IsMalformedTest, JobBas
 use Rattle.ht_inputs.proofs.Common.{ObservationView, ReadStops, Rows, RunError, StandsForFile, StandsForResponses}
 use Rattle.ht_inputs.proofs.Common.{StandsForTests, Tern, TestsStop, WasRead, diagnose, lines_of, row_text}
 use Rattle.ht_ports.specs.declared.ports.InPort.TheVariants as in_port
-use Rattle.ht_net.specs.Netlist.{max_inputs, max_nets, no_net}
+use Rattle.ht_net.specs.Circuit.Netlist.{max_inputs, max_nets, no_net}
 use Rattle.ht_texts.specs.Tests.{IsTextOf, IsWrongLine, bit_code}
 use Rattle.ht_dictionary.specs.ResponseTexts.{IsResponseText, IsRowText, IsWrongResponse, tern_code}
 use Rattle.ht_inputs.specs.Reading.{AreVectorsUpTo}

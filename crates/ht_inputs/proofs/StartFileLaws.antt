@@ -14,7 +14,7 @@ use Rattle.ht_ports.specs.declared.ports.InPort.TheVariants.{Tests}
 use Rattle.ht_ports.specs.LineRule.{first_piece}
 use Rattle.ht_ports.proofs.PieceLaws.{length-without_cr}
 use Rattle.ht_ports.proofs.TextLaws.{first_line}
-use Rattle.ht_net.specs.Netlist.{max_dffs}
+use Rattle.ht_net.specs.Circuit.Netlist.{max_dffs}
 use Rattle.ht_texts.specs.Tests.{lf_count, line_at}
 use Rattle.ht_texts.specs.StartTexts.{IsMalformedStart, IsStartLine, IsStartText}
 use Rattle.ht_texts.proofs.LfLaws.{lf_count-cons}

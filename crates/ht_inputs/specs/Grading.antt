@@ -4,9 +4,9 @@ use Rattle.ht_ports.specs.Desk.{DeskView}
 use Rattle.ht_ports.specs.LineRule.{max_text_bytes}
 use Rattle.ht_ports.specs.declared.ports.InPort.TheVariants.{Netlist, Tests, Extra}
 use Rattle.ht_tern.specs.declared.tern.Tern.{Tern}
-use Rattle.ht_net.specs.Netlist as net
-use Rattle.ht_net.specs.Netlist.{IsCircuit}
-use Rattle.ht_net.specs.Detection.{IsStart}
+use Rattle.ht_net.specs.Circuit.Netlist as net
+use Rattle.ht_net.specs.Circuit.Netlist.{IsCircuit}
+use Rattle.ht_net.specs.Detect.Detection.{IsStart}
 use Rattle.ht_net.specs.declared.place.Place.{Place}
 use Rattle.ht_faults.specs.Sites.{faults_of}
 use Rattle.ht_faults.specs.Classes.{AreClasses}

@@ -6,10 +6,10 @@ use Rattle.ht_ports.specs.Desk.{DeskView}
 use Rattle.ht_ports.specs.LineRule.{lines_of, max_text_bytes}
 use Rattle.ht_ports.specs.declared.ports.InPort.{InPort}
 use Rattle.ht_ports.specs.declared.ports.InPort.TheVariants as in_port
-use Rattle.ht_net.specs.Netlist.{Netlist, IsCircuit}
+use Rattle.ht_net.specs.Circuit.Netlist.{Netlist, IsCircuit}
 use Rattle.ht_faults.specs.Sites.{faults_of}
 use Rattle.ht_tern.specs.declared.tern.Tern.{Tern}
-use Rattle.ht_net.specs.Rows.{Rows}
+use Rattle.ht_net.specs.Frames.Rows.{Rows}
 use Rattle.ht_serial.specs.ObservationView.{ObservationView}
 use Rattle.ht_dictionary.specs.ResponseTexts.{row_text}
 use Rattle.ht_texts.specs.StartTexts.{IsStartLine}

@@ -4,8 +4,8 @@ use Rattle.ht_ports.specs.Desk.{DeskView}
 use Rattle.ht_ports.specs.declared.ports.InPort.{InPort}
 use Rattle.ht_ports.specs.declared.ports.InPort.TheVariants.{Netlist, Tests, Report, Proofs, Faults, Extra}
 use Rattle.ht_tern.specs.declared.tern.Tern.{Tern}
-use Rattle.ht_net.specs.Netlist as net
-use Rattle.ht_net.specs.Detection.{unknown_state}
+use Rattle.ht_net.specs.Circuit.Netlist as net
+use Rattle.ht_net.specs.Detect.Detection.{unknown_state}
 use Rattle.ht_bench.specs.Text.{max_netlist_bytes, IsNetlistOf, Refuses}
 use Rattle.ht_bench.specs.declared.error.BenchError.{BenchError}
 use Rattle.ht_bench.specs.declared.error.BenchError.TheVariants as bench

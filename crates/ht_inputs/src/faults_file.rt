@@ -2,7 +2,7 @@
 ghost use Rattle.std.specs.Prelude.{◌≡◌, ◌+◌, ◌++◌, ◌∷◌, [], length, List, ℕ, IfOk, IfErr, is_some, option_map};
 ghost use Rattle.ht_ports.specs.Desk.{DeskView, InCall};
 ghost use Rattle.ht_ports.specs.declared.ports.InPort.TheVariants as in_port;
-ghost use Rattle.ht_net.specs.Netlist.{Netlist};
+ghost use Rattle.ht_net.specs.Circuit.Netlist.{Netlist};
 ghost use Rattle.ht_faults.specs.Sites.{faults_of};
 ghost use Rattle.ht_texts.specs.FaultListTexts.{AreFaultLines, IsFaultListText};
 ghost use Rattle.ht_asked.specs.Asked.{Asked};

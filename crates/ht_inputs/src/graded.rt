@@ -2,8 +2,8 @@
 ghost use Rattle.std.specs.Prelude.{◌≡◌, IfOk, IfErr};
 ghost use Rattle.ht_ports.specs.Desk.{InCall};
 ghost use Rattle.ht_ports.specs.declared.ports.InPort.TheVariants as in_port;
-ghost use Rattle.ht_net.specs.Netlist.{IsCircuit};
-ghost use Rattle.ht_net.specs.Detection.{IsStart};
+ghost use Rattle.ht_net.specs.Circuit.Netlist.{IsCircuit};
+ghost use Rattle.ht_net.specs.Detect.Detection.{IsStart};
 ghost use Rattle.ht_faults.specs.Sites.{faults_of};
 ghost use Rattle.ht_faults.specs.Classes.{AreClasses};
 ghost use Rattle.ht_asked.specs.Asked.{Asked};

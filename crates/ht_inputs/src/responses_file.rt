@@ -3,7 +3,7 @@ ghost use Rattle.std.specs.Prelude.{◌≡◌, ◌+◌, ◌≤◌, ◌<◌, ◌+
 ghost use Rattle.ht_ports.specs.Desk.{InCall};
 ghost use Rattle.ht_ports.specs.declared.ports.InPort.TheVariants as in_port;
 ghost use Rattle.ht_tern.specs.declared.tern.Tern.{Tern};
-ghost use Rattle.ht_net.specs.Netlist.{max_nets};
+ghost use Rattle.ht_net.specs.Circuit.Netlist.{max_nets};
 ghost use Rattle.ht_dictionary.specs.ResponseTexts.{IsResponseText, IsRowText};
 ghost use Rattle.ht_inputs.specs.declared.run_error.RunError.TheVariants as error;
 ghost use Rattle.ht_asked.specs.Asked as asked;

@@ -3,8 +3,8 @@ ghost use Rattle.std.specs.Prelude.{◌≡◌, ◌≤◌, ◌+◌, ◌<◌, List
 ghost use Rattle.ht_ports.specs.Desk.{DeskView, InCall};
 ghost use Rattle.ht_ports.specs.declared.ports.InPort.TheVariants as in_port;
 ghost use Rattle.ht_tern.specs.declared.tern.Tern.{Tern};
-ghost use Rattle.ht_net.specs.Netlist.{IsCircuit};
-ghost use Rattle.ht_net.specs.Detection.{IsStart, unknown_state};
+ghost use Rattle.ht_net.specs.Circuit.Netlist.{IsCircuit};
+ghost use Rattle.ht_net.specs.Detect.Detection.{IsStart, unknown_state};
 ghost use Rattle.ht_inputs.specs.declared.run_error.RunError.TheVariants as error;
 ghost use Rattle.ht_texts.specs.StartTexts.{IsStartLine, IsStartText};
 ghost use Rattle.ht_asked.specs.Asked.{Asked};
@@ -58,7 +58,7 @@ struct StartReader {
 }
 
 impl LineJudge for StartReader {
-    ghost use Rattle.ht_net.specs.Netlist.{max_dffs};
+    ghost use Rattle.ht_net.specs.Circuit.Netlist.{max_dffs};
     ghost use Rattle.ht_inputs.specs.declared.run_error.RunError.TheVariants.{BadStart};
     ghost use Rattle.ht_inputs.specs.Judging.{StandsForStart};
 

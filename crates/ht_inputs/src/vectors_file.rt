@@ -3,7 +3,7 @@ ghost use Rattle.std.specs.Prelude.{◌≡◌, ◌≤◌, ◌+◌, ◌++◌, ◌
 ghost use Rattle.ht_ports.specs.Desk.{DeskView, InCall};
 ghost use Rattle.ht_ports.specs.LineRule.{max_text_bytes};
 ghost use Rattle.ht_ports.specs.declared.ports.InPort.TheVariants as in_port;
-ghost use Rattle.ht_net.specs.Netlist.{IsCircuit};
+ghost use Rattle.ht_net.specs.Circuit.Netlist.{IsCircuit};
 ghost use Rattle.ht_texts.specs.Tests.{IsTextOf};
 ghost use Rattle.ht_compact.specs.TestsToCompact.{IsTestTextToCompact};
 ghost use Rattle.ht_valid.specs.ValidFiles.{Content};
@@ -48,7 +48,7 @@ struct TestsReader {
 }
 
 impl LineJudge for TestsReader {
-    ghost use Rattle.ht_net.specs.Netlist.{max_inputs};
+    ghost use Rattle.ht_net.specs.Circuit.Netlist.{max_inputs};
     ghost use Rattle.ht_inputs.specs.declared.run_error.RunError.TheVariants.{BadTests};
     ghost use Rattle.ht_inputs.specs.Judging.{StandsForTests};
 

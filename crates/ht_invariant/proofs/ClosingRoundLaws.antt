@@ -4,10 +4,10 @@ use Rattle.std.specs.List.{remove}
 use Rattle.std.proofs.lemmas.Bool.{and_parts, and_from}
 use Rattle.std.proofs.lemmas.List.{append-nil, drop_all, drop_more, drop-set-lt, drop_at, take_all, take_at, take_more_set, take-append-drop, length-set, length-take-le}
 use Rattle.std.proofs.lemmas.List.Folds.{list_all-append}
-use Rattle.ht_net.specs.Netlist.{Netlist}
+use Rattle.ht_net.specs.Circuit.Netlist.{Netlist}
 use Rattle.ht_tree.specs.declared.token.Token.{Token}
 use Rattle.ht_tree.specs.declared.clause.Clause.{Clause}
-use Rattle.ht_tree.specs.Clauses.{literals_of}
+use Rattle.ht_tree.specs.Clause.Clauses.{literals_of}
 use Rattle.ht_invariant.specs.Trials.{knows, knows_each}
 use Rattle.ht_invariant.specs.UnderWay.{IsUnderWay, LeadsToRound}
 use Rattle.ht_invariant.specs.ClosingRounds.{AreClosingRounds, IsClosingAnswer, IsClosingRound, closing_guide, clause_kept, clauses_kept}

@@ -5,16 +5,16 @@ use Rattle.std.specs.List.{All, filter, list_all, range_with_len}
 use Rattle.std.proofs.lemmas.Bool.{and_from, and_parts, lt-ltb}
 use Rattle.std.proofs.lemmas.List.{length-take, map-append}
 use Rattle.std.proofs.lemmas.List.Elements.{All-cons, All-filter, All-head, All-nil, All-tail, All-take, filter_passes}
-use Rattle.ht_net.specs.Netlist.{Netlist}
-use Rattle.ht_net.specs.Detection.{IsState}
+use Rattle.ht_net.specs.Circuit.Netlist.{Netlist}
+use Rattle.ht_net.specs.Detect.Detection.{IsState}
 use Rattle.ht_tree.specs.declared.token.Token.{Token}
-use Rattle.ht_tree.specs.Walks.{IsComplete}
+use Rattle.ht_tree.specs.Walk.Walks.{IsComplete}
 use Rattle.ht_tree.proofs.FirstLaws.{All-flat_map, All-range_with_len}
 use Rattle.ht_tree.specs.declared.clause.Literal.{Literal}
 use Rattle.ht_tree.specs.declared.clause.Clause.{Clause}
-use Rattle.ht_tree.specs.Clauses.{IsClause, IsSecond, literals_of, literals_of_each, meets, meets_each, second_of}
-use Rattle.ht_tree.specs.ClauseWindows.{closing_window, judge_under}
-use Rattle.ht_tree.specs.Invariants.{IsClosedUnder, IsInvariant, max_clauses}
+use Rattle.ht_tree.specs.Clause.Clauses.{IsClause, IsSecond, literals_of, literals_of_each, meets, meets_each, second_of}
+use Rattle.ht_tree.specs.Clause.ClauseWindows.{closing_window, judge_under}
+use Rattle.ht_tree.specs.Clause.Invariants.{IsClosedUnder, IsInvariant, max_clauses}
 use Rattle.ht_invariant.specs.Trials.{knows, knows_each}
 use Rattle.ht_invariant.specs.ClosingRounds.{AreClosingAnswers, AreClosingRounds, IsClosingRound, clauses_kept}
 use Rattle.ht_invariant.specs.FoundClauses.{FindsClauses, candidates_at, candidates_of, clause_of, first_clauses, is_met_by_each, literal, of_two, reach, state_after, tried_frames, tried_states}

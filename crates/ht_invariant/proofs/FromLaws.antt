@@ -2,21 +2,21 @@
 use Rattle.std.proofs.Common.{◌≡◌, ◌<◌, ◌≤◌, ◌+◌, ◌*◌, ◌∙◌, ℕ, List, [], ◌∷◌, ◌++◌, Bool, true, length, sym, ap, arith}
 use Rattle.std.specs.List.{list_all}
 use Rattle.ht_net.specs.declared.fault.Fault.{Fault}
-use Rattle.ht_net.specs.Netlist.{IsCircuit, Netlist}
+use Rattle.ht_net.specs.Circuit.Netlist.{IsCircuit, Netlist}
 use Rattle.ht_tree.specs.declared.clause.Clause.{Clause}
 use Rattle.ht_tree.specs.declared.clause.Literal.{Literal}
 use Rattle.ht_tree.specs.declared.token.Token.{Token}
 use Rattle.ht_tree.specs.declared.told.Told.{Told}
-use Rattle.ht_tree.specs.Walks.{Node}
-use Rattle.ht_tree.specs.Decisions.{is_in}
-use Rattle.ht_tree.specs.Searches.{Closes, Guide, SpendsAt, node_at}
-use Rattle.ht_tree.specs.Budgets.{refutation_cost}
-use Rattle.ht_tree.specs.ToldChains.{AreChained, is_output, path_by, states_of}
-use Rattle.ht_tree.specs.Clauses.{AreKnownClauses, literals_of_each}
-use Rattle.ht_tree.specs.ClauseWindows.{judge_under, window_under}
-use Rattle.ht_tree.specs.Invariants.{IsInvariant}
-use Rattle.ht_tree.specs.RefutationsFrom.{RefutesFrom}
-use Rattle.ht_tree.specs.ToldUnder.{TellsUnder}
+use Rattle.ht_tree.specs.Walk.Walks.{Node}
+use Rattle.ht_tree.specs.Window.Decisions.{is_in}
+use Rattle.ht_tree.specs.Walk.Searches.{Closes, Guide, SpendsAt, node_at}
+use Rattle.ht_tree.specs.Walk.Budgets.{refutation_cost}
+use Rattle.ht_tree.specs.Record.ToldChains.{AreChained, is_output, path_by, states_of}
+use Rattle.ht_tree.specs.Clause.Clauses.{AreKnownClauses, literals_of_each}
+use Rattle.ht_tree.specs.Clause.ClauseWindows.{judge_under, window_under}
+use Rattle.ht_tree.specs.Clause.Invariants.{IsInvariant}
+use Rattle.ht_tree.specs.Record.RefutationsFrom.{RefutesFrom}
+use Rattle.ht_tree.specs.Record.ToldUnder.{TellsUnder}
 use Rattle.ht_records.proofs.FromLaws.{refuted_from}
 use Rattle.ht_records.proofs.MeetLaws.{clauses_known}
 use Rattle.ht_records.proofs.StatusLaws.{sure_under}

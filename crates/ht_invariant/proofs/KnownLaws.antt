@@ -3,10 +3,10 @@ use Rattle.std.proofs.Common.{◌≡◌, ◌<◌, List, [], ◌∷◌, true, len
 use Rattle.std.specs.List.{All}
 use Rattle.std.proofs.lemmas.Bool.{and_parts, ltb-true}
 use Rattle.std.proofs.lemmas.List.Elements.{All-nil, All-cons, All-map}
-use Rattle.ht_net.specs.Netlist.{Netlist}
+use Rattle.ht_net.specs.Circuit.Netlist.{Netlist}
 use Rattle.ht_tree.specs.declared.clause.Literal.{Literal}
 use Rattle.ht_tree.specs.declared.clause.Clause.{Clause}
-use Rattle.ht_tree.specs.Clauses.{AreKnown, AreKnownClauses, literals_of, literals_of_each}
+use Rattle.ht_tree.specs.Clause.Clauses.{AreKnown, AreKnownClauses, literals_of, literals_of_each}
 use Rattle.ht_invariant.specs.Trials.{knows, knows_each}
 
 module _ (c : Netlist) where

@@ -3,8 +3,8 @@ use Rattle.std.proofs.Common.{◌≡◌, ◌∙◌, ℕ, List, Bool, true, false
 use Rattle.std.specs.Prelude.{is_some}
 use Rattle.ht_tern.specs.declared.tern.Tern.{Tern}
 use Rattle.ht_tree.specs.declared.token.Assign3.{Assign3}
-use Rattle.ht_tree.specs.Decisions.{decided_value}
-use Rattle.ht_tree.specs.Walks.{decides}
+use Rattle.ht_tree.specs.Window.Decisions.{decided_value}
+use Rattle.ht_tree.specs.Walk.Walks.{decides}
 use Rattle.ht_tree.proofs.DecidedLaws.{decides_value}
 
 flip : (r b : Bool) → b ≡ not r → r ≡ not b

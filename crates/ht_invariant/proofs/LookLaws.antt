@@ -2,13 +2,13 @@
 use Rattle.std.proofs.Common.{◌≡◌, ◌<◌, List, [], ◌∷◌, Bool, true, false, cond, Some, length, refl, subst, arith}
 use Rattle.std.specs.List.{find}
 use Rattle.std.proofs.lemmas.Bool.{and_parts, ltb-true}
-use Rattle.ht_net.specs.Netlist.{IsCircuit}
-use Rattle.ht_net.specs.Faults.{is_data_pin}
+use Rattle.ht_net.specs.Circuit.Netlist.{IsCircuit}
+use Rattle.ht_net.specs.Frames.Faults.{is_data_pin}
 use Rattle.ht_tree.specs.declared.token.Assign3.{Assign3}
 use Rattle.ht_tree.specs.declared.window.Spot.TheVariants.{State}
-use Rattle.ht_tree.specs.Windows.{SearchWindow, cell_at, is_undetermined}
-use Rattle.ht_tree.specs.Places.{set_at, spot_net}
-use Rattle.ht_tree.specs.WalkBack.{CanWalk}
+use Rattle.ht_tree.specs.Window.Windows.{SearchWindow, cell_at, is_undetermined}
+use Rattle.ht_tree.specs.Window.Places.{set_at, spot_net}
+use Rattle.ht_tree.specs.Window.WalkBack.{CanWalk}
 use Rattle.ht_tree.proofs.UndeterminedLaws.{forced_undetermined}
 use Rattle.ht_tree.specs.declared.clause.Literal.{Literal}
 use Rattle.ht_invariant.specs.Trials.{knows}

@@ -6,7 +6,7 @@ use Rattle.std.proofs.lemmas.List.{append-nil, length-take}
 use Rattle.std.proofs.lemmas.List.Elements.{filter-append}
 use Rattle.std.proofs.lemmas.List.Concat.{flat_map-append}
 use Rattle.ht_tree.specs.declared.clause.Clause.{Clause}
-use Rattle.ht_tree.specs.Invariants.{max_clauses}
+use Rattle.ht_tree.specs.Clause.Invariants.{max_clauses}
 use Rattle.ht_invariant.specs.Offers.{offered}
 use Rattle.ht_window.proofs.SeenLaws.{range_push}
 

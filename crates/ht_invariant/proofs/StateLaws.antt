@@ -2,9 +2,9 @@
 use Rattle.std.proofs.Common.{◌≡◌, ◌+◌, ◌∙◌, ℕ, suc, List, [], ◌∷◌, ◌++◌, map, Bool, None, length, refl, sym, ap, arith}
 use Rattle.std.specs.List.{range_with_len}
 use Rattle.std.proofs.lemmas.List.FromFn.{map-range_with_len_more}
-use Rattle.ht_net.specs.Netlist.{Netlist}
-use Rattle.ht_net.specs.Frame.{next_state}
-use Rattle.ht_net.specs.Faults.{bool_rules}
+use Rattle.ht_net.specs.Circuit.Netlist.{Netlist}
+use Rattle.ht_net.specs.Frames.Frame.{next_state}
+use Rattle.ht_net.specs.Frames.Faults.{bool_rules}
 use Rattle.ht_random.specs.RandomVectors.{generator_after, random_vector, random_vectors}
 use Rattle.ht_random.specs.Words.{after_words}
 use Rattle.ht_random.proofs.RandomVectorLaws.{generator_after_more}

@@ -2,17 +2,17 @@
 use Rattle.std.proofs.Common.{◌≡◌, ◌∙◌, ℕ, List, [], ◌∷◌, Bool, true, false, IsTrue, refl, sym, ap, subst, if◌then◌else◌}
 use Rattle.std.specs.List.{list_all, list_any}
 use Rattle.ht_tern.specs.declared.tern.Tern.{Tern}
-use Rattle.ht_net.specs.Netlist.{Netlist}
+use Rattle.ht_net.specs.Circuit.Netlist.{Netlist}
 use Rattle.ht_tree.specs.declared.token.Assign3.{Assign3}
 use Rattle.ht_tree.specs.declared.token.Choice.{Choice}
 use Rattle.ht_tree.specs.declared.token.Choice.TheVariants as choice
 use Rattle.ht_tree.specs.declared.token.Status3.{Status3}
 use Rattle.ht_tree.specs.declared.token.Status3.TheVariants as status3
-use Rattle.ht_tree.specs.Walks.{Node, Fits, decides, path_of}
-use Rattle.ht_tree.specs.Searches.{deciding_token, guide_of}
-use Rattle.ht_tree.specs.Windows.{one_frame, SearchWindow, IsWindow}
-use Rattle.ht_tree.specs.Variables.{IsLegalChoice, may_two, may_three}
-use Rattle.ht_tree.specs.Counts.{seeks_difference}
+use Rattle.ht_tree.specs.Walk.Walks.{Node, Fits, decides, path_of}
+use Rattle.ht_tree.specs.Walk.Searches.{deciding_token, guide_of}
+use Rattle.ht_tree.specs.Window.Windows.{one_frame, SearchWindow, IsWindow}
+use Rattle.ht_tree.specs.Window.Variables.{IsLegalChoice, may_two, may_three}
+use Rattle.ht_tree.specs.Walk.Counts.{seeks_difference}
 use Rattle.ht_tree.proofs.DifferenceLaws.{window_stays}
 use Rattle.ht_search.specs.Legal.{MayDecide}
 use Rattle.ht_search.specs.WindowSteps.{node_of, steps_under}
@@ -20,10 +20,10 @@ use Rattle.ht_search.proofs.WindowStepLaws.{window_path}
 use Rattle.ht_window.specs.States.{IsLegalDecision}
 use Rattle.ht_window.proofs.TrialLaws as trial
 use Rattle.ht_tree.specs.declared.clause.Clause.{Clause}
-use Rattle.ht_tree.specs.WindowStatus.{status_at, without_place}
-use Rattle.ht_tree.specs.Clauses.{literals_of_each, path_breaks, path_meets, second_of}
-use Rattle.ht_tree.specs.ClauseWindows.{ClauseWindow, IsClauseWindow, IsSought, is_one_frame, open_if_sure, status_under}
-use Rattle.ht_tree.specs.ClauseSearches.{guide_under, pick_under}
+use Rattle.ht_tree.specs.Window.WindowStatus.{status_at, without_place}
+use Rattle.ht_tree.specs.Clause.Clauses.{literals_of_each, path_breaks, path_meets, second_of}
+use Rattle.ht_tree.specs.Clause.ClauseWindows.{ClauseWindow, IsClauseWindow, IsSought, is_one_frame, open_if_sure, status_under}
+use Rattle.ht_tree.specs.Clause.ClauseSearches.{guide_under, pick_under}
 use Rattle.ht_records.proofs.ChoiceLaws.{open_legal}
 use Rattle.ht_records.proofs.CountLaws.{one_frame_seeks}
 use Rattle.ht_invariant.specs.declared.sought.Sought.{Sought}

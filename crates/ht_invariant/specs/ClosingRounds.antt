@@ -1,14 +1,14 @@
 -- The rounds that leave an invariant's clauses: each searches the closing window of each clause under the clauses that
 -- are still kept.
 use Rattle.std.specs.Prelude.{◌≡◌, ◌<◌, ◌⊎◌, ℕ, suc, zero, List, [], ◌∷◌, ◌++◌, Option, Some, None, length}
-use Rattle.ht_net.specs.Netlist.{Netlist}
+use Rattle.ht_net.specs.Circuit.Netlist.{Netlist}
 use Rattle.ht_tree.specs.declared.token.Assign3.{Assign3}
 use Rattle.ht_tree.specs.declared.token.Token.{Token}
-use Rattle.ht_tree.specs.Searches.{Guide, FindsAt, Closes, SpendsAt, node_at}
+use Rattle.ht_tree.specs.Walk.Searches.{Guide, FindsAt, Closes, SpendsAt, node_at}
 use Rattle.ht_tree.specs.declared.clause.Clause.{Clause}
-use Rattle.ht_tree.specs.Clauses.{literals_of, literals_of_each}
-use Rattle.ht_tree.specs.ClauseWindows.{closing_window}
-use Rattle.ht_tree.specs.ClauseSearches.{guide_under}
+use Rattle.ht_tree.specs.Clause.Clauses.{literals_of, literals_of_each}
+use Rattle.ht_tree.specs.Clause.ClauseWindows.{closing_window}
+use Rattle.ht_tree.specs.Clause.ClauseSearches.{guide_under}
 
 -- what the search of a clause's closing window under clauses goes by
 abbrev pub closing_guide : Netlist → List Clause → Clause → Guide

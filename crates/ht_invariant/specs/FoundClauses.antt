@@ -1,14 +1,14 @@
 -- The invariant that is found from a state: its candidates, and what the rounds leave of them.
 use Rattle.std.specs.Prelude.{◌+◌, ◌-◌, ℕ, List, [], ◌∷◌, map, take, filter, flat_map, min, Bool, true, false, Option, Some, None, length, get_or}
 use Rattle.std.specs.List.{list_all, range_with_len}
-use Rattle.ht_net.specs.Netlist.{Netlist}
-use Rattle.ht_net.specs.Frame.{run_state}
-use Rattle.ht_net.specs.Faults.{bool_rules}
+use Rattle.ht_net.specs.Circuit.Netlist.{Netlist}
+use Rattle.ht_net.specs.Frames.Frame.{run_state}
+use Rattle.ht_net.specs.Frames.Faults.{bool_rules}
 use Rattle.ht_random.specs.RandomVectors.{random_vectors}
 use Rattle.ht_tree.specs.declared.clause.Literal.{Literal}
 use Rattle.ht_tree.specs.declared.clause.Clause.{Clause}
-use Rattle.ht_tree.specs.Clauses.{literals_of, meets}
-use Rattle.ht_tree.specs.Invariants.{max_clauses}
+use Rattle.ht_tree.specs.Clause.Clauses.{literals_of, meets}
+use Rattle.ht_tree.specs.Clause.Invariants.{max_clauses}
 use Rattle.ht_invariant.specs.ClosingRounds.{AreClosingRounds}
 
 -- a literal, and a clause that has no walk yet

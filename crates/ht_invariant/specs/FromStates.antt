@@ -1,22 +1,22 @@
 -- What a refutation from a state answers, and what that means.
 use Rattle.std.specs.Prelude.{◌≡◌, ℕ, List, Bool, true, length}
 use Rattle.ht_net.specs.declared.fault.Fault.{Fault}
-use Rattle.ht_net.specs.Netlist.{Netlist}
+use Rattle.ht_net.specs.Circuit.Netlist.{Netlist}
 use Rattle.ht_tree.specs.declared.clause.Clause.{Clause}
 use Rattle.ht_tree.specs.declared.clause.Literal.{Literal}
 use Rattle.ht_tree.specs.declared.token.Token.{Token}
 use Rattle.ht_tree.specs.declared.told.Told.{Told}
-use Rattle.ht_tree.specs.Walks.{IsOpen}
-use Rattle.ht_tree.specs.Rising.{Rises}
-use Rattle.ht_tree.specs.Decisions.{is_in}
-use Rattle.ht_tree.specs.Searches.{Closes, Guide}
-use Rattle.ht_tree.specs.ToldChains.{is_output, states_of}
-use Rattle.ht_tree.specs.Clauses.{literals_of_each}
-use Rattle.ht_tree.specs.ClauseWindows.{judge_under, window_under}
-use Rattle.ht_tree.specs.ClauseSearches.{guide_under}
-use Rattle.ht_tree.specs.SealedInClauses.{SealedIn}
-use Rattle.ht_tree.specs.RefutationsFrom.{IsUntestableFrom, RefutesFrom}
-use Rattle.ht_tree.specs.ToldUnder.{TellsUnder}
+use Rattle.ht_tree.specs.Walk.Walks.{IsOpen}
+use Rattle.ht_tree.specs.Record.Rising.{Rises}
+use Rattle.ht_tree.specs.Window.Decisions.{is_in}
+use Rattle.ht_tree.specs.Walk.Searches.{Closes, Guide}
+use Rattle.ht_tree.specs.Record.ToldChains.{is_output, states_of}
+use Rattle.ht_tree.specs.Clause.Clauses.{literals_of_each}
+use Rattle.ht_tree.specs.Clause.ClauseWindows.{judge_under, window_under}
+use Rattle.ht_tree.specs.Clause.ClauseSearches.{guide_under}
+use Rattle.ht_tree.specs.Clause.SealedInClauses.{SealedIn}
+use Rattle.ht_tree.specs.Record.RefutationsFrom.{IsUntestableFrom, RefutesFrom}
+use Rattle.ht_tree.specs.Record.ToldUnder.{TellsUnder}
 use Rattle.ht_oneframe.specs.Rounds.{FindsFrame, FindsStates, SpendsIn}
 use Rattle.ht_invariant.specs.declared.refutation.FromState.{FromState}
 use Rattle.ht_invariant.specs.declared.refutation.FromState.TheVariants as answer

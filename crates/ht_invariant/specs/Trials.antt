@@ -2,13 +2,13 @@
 use Rattle.std.specs.Prelude.{List, ◌∷◌, Bool, true, nat_lt, length, Option, is_none}
 use Rattle.std.specs.List.{list_all}
 use Rattle.ht_net.specs.declared.fault.Fault.{Fault}
-use Rattle.ht_net.specs.Netlist.{Netlist}
-use Rattle.ht_tree.specs.Windows.{SearchWindow}
+use Rattle.ht_net.specs.Circuit.Netlist.{Netlist}
+use Rattle.ht_tree.specs.Window.Windows.{SearchWindow}
 use Rattle.ht_tree.specs.declared.clause.Literal.{Literal}
 use Rattle.ht_tree.specs.declared.clause.Clause.{Clause}
-use Rattle.ht_tree.specs.Clauses.{literals_of, literals_of_each, second_of}
-use Rattle.ht_tree.specs.ClauseWindows as windows
-use Rattle.ht_tree.specs.ClauseWindows.{ClauseWindow}
+use Rattle.ht_tree.specs.Clause.Clauses.{literals_of, literals_of_each, second_of}
+use Rattle.ht_tree.specs.Clause.ClauseWindows as windows
+use Rattle.ht_tree.specs.Clause.ClauseWindows.{ClauseWindow}
 use Rattle.ht_invariant.specs.declared.sought.Sought.{Sought}
 use Rattle.ht_invariant.specs.declared.sought.Sought.TheVariants.{Difference, Breach}
 

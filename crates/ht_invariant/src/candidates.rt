@@ -1,7 +1,7 @@
 //! The clauses with which the rounds begin.
 ghost use Rattle.std.specs.Prelude.{◌≡◌, ◌<◌, ◌+◌, ◌-◌, ◌^◌, ◌∷◌, [], take, filter, flat_map, min, length, None, Some, IfOk, OnOk};
 ghost use Rattle.std.specs.List.{range_with_len};
-ghost use Rattle.ht_tree.specs.Invariants.{max_clauses};
+ghost use Rattle.ht_tree.specs.Clause.Invariants.{max_clauses};
 ghost use Rattle.ht_invariant.specs.FoundClauses.{candidates_of, clause_of, is_met_by_each, literal, of_two, reach};
 ghost use Rattle.ht_invariant.specs.Offers.{offered};
 

@@ -1,11 +1,11 @@
 //! One round: each clause's closing window is searched under the clauses that are still kept.
 ghost use Rattle.std.specs.Prelude.{◌≡◌, ◌<◌, ◌≤◌, ◌-◌, ℕ, List, [], true, get_or, slice_set, vec_len, IfOk, OnOk};
 ghost use Rattle.ht_tree.specs.declared.token.Assign3.{Assign3};
-ghost use Rattle.ht_tree.specs.Searches.{Guide, node_at};
+ghost use Rattle.ht_tree.specs.Walk.Searches.{Guide, node_at};
 ghost use Rattle.ht_search.specs.Outcomes.{IsOutcome};
 ghost use Rattle.ht_tree.specs.declared.clause.Clause.{Clause};
-ghost use Rattle.ht_tree.specs.Clauses.{literals_of};
-ghost use Rattle.ht_tree.specs.ClauseWindows.{good_window};
+ghost use Rattle.ht_tree.specs.Clause.Clauses.{literals_of};
+ghost use Rattle.ht_tree.specs.Clause.ClauseWindows.{good_window};
 ghost use Rattle.ht_invariant.specs.Trials.{knows, knows_each};
 ghost use Rattle.ht_invariant.specs.ClosingRounds.{IsClosingAnswer, IsClosingRound, closing_guide};
 ghost use Rattle.ht_invariant.specs.UnderWay.{IsUnderWay};

@@ -1,7 +1,7 @@
 //! The search for an invariant.
 ghost use Rattle.std.specs.Prelude.{◌≡◌, ◌<◌, ℕ, [], true, length, IfOk, OnOk};
-ghost use Rattle.ht_tree.specs.ClauseWindows.{good_window};
-ghost use Rattle.ht_tree.specs.Invariants.{IsInvariant};
+ghost use Rattle.ht_tree.specs.Clause.ClauseWindows.{good_window};
+ghost use Rattle.ht_tree.specs.Clause.Invariants.{IsInvariant};
 ghost use Rattle.ht_invariant.specs.Trials.{knows_each};
 ghost use Rattle.ht_invariant.specs.ClosingRounds.{AreClosingRounds};
 ghost use Rattle.ht_invariant.specs.FoundClauses.{FindsClauses};

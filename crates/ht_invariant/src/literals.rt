@@ -1,10 +1,10 @@
 //! What a window says of the clauses under which it is searched.
 ghost use Rattle.std.specs.Prelude.{◌≡◌, ◌<◌, ◌+◌, true, not, length};
 ghost use Rattle.std.specs.List.{find, list_any, list_all};
-ghost use Rattle.ht_tree.specs.Walks.{decides};
+ghost use Rattle.ht_tree.specs.Walk.Walks.{decides};
 ghost use Rattle.ht_tree.specs.declared.clause.Literal.{Literal};
-ghost use Rattle.ht_tree.specs.Clauses.{is_decided_against, is_decided_to, latch_value, literals_of, literals_of_each, path_breaks, path_meets};
-ghost use Rattle.ht_tree.specs.ClauseSearches.{to_clause, to_literal};
+ghost use Rattle.ht_tree.specs.Clause.Clauses.{is_decided_against, is_decided_to, latch_value, literals_of, literals_of_each, path_breaks, path_meets};
+ghost use Rattle.ht_tree.specs.Clause.ClauseSearches.{to_clause, to_literal};
 ghost use Rattle.ht_invariant.specs.Trials.{knows, knows_each};
 
 use ht_tern::Tern;

@@ -1,12 +1,12 @@
 //! The refutation of a fault from one named state.
 ghost use Rattle.std.specs.Prelude.{◌≡◌, ◌≤◌, ℕ, List, [], Bool, true, length, IfOk};
-ghost use Rattle.ht_net.specs.Netlist.{Netlist};
+ghost use Rattle.ht_net.specs.Circuit.Netlist.{Netlist};
 ghost use Rattle.std.specs.List.{All};
-ghost use Rattle.ht_tree.specs.Budgets.{refutation_cost};
-ghost use Rattle.ht_tree.specs.Clauses.{IsClause, literals_of_each};
-ghost use Rattle.ht_tree.specs.Invariants.{IsInvariant};
-ghost use Rattle.ht_tree.specs.SealedInClauses.{SealedIn};
-ghost use Rattle.ht_tree.specs.Windows as windows;
+ghost use Rattle.ht_tree.specs.Walk.Budgets.{refutation_cost};
+ghost use Rattle.ht_tree.specs.Clause.Clauses.{IsClause, literals_of_each};
+ghost use Rattle.ht_tree.specs.Clause.Invariants.{IsInvariant};
+ghost use Rattle.ht_tree.specs.Clause.SealedInClauses.{SealedIn};
+ghost use Rattle.ht_tree.specs.Window.Windows as windows;
 ghost use Rattle.ht_window.specs.Starts.{marked};
 ghost use Rattle.ht_oneframe.specs.Rounds.{IsRound};
 ghost use Rattle.ht_invariant.specs.declared.sought.Sought.TheVariants.{Difference};

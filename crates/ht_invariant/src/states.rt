@@ -1,8 +1,8 @@
 //! The states of some frames of the good machine, and whether a clause holds at each.
 ghost use Rattle.std.specs.Prelude.{◌≡◌, false, length, get_or, IfOk};
-ghost use Rattle.ht_net.specs.Frame.{next_state};
-ghost use Rattle.ht_net.specs.Faults.{bool_rules};
-ghost use Rattle.ht_tree.specs.Clauses.{literals_of, meets, meets_literal};
+ghost use Rattle.ht_net.specs.Frames.Frame.{next_state};
+ghost use Rattle.ht_net.specs.Frames.Faults.{bool_rules};
+ghost use Rattle.ht_tree.specs.Clause.Clauses.{literals_of, meets, meets_literal};
 ghost use Rattle.ht_invariant.specs.FoundClauses.{is_met_by_each, tried_states};
 
 use ht_items::FlatRows;

@@ -1,10 +1,10 @@
 //! The search of a one-frame window under clauses.
 ghost use Rattle.std.specs.Prelude.{◌≡◌, ◌≤◌, ℕ, [], true, IfOk};
-ghost use Rattle.ht_tree.specs.Walks.{Node, root};
-ghost use Rattle.ht_tree.specs.Searches.{node_at};
-ghost use Rattle.ht_tree.specs.Counts.{Measures, most_tokens};
-ghost use Rattle.ht_tree.specs.ClauseWindows.{is_one_frame, status_under};
-ghost use Rattle.ht_tree.specs.ClauseSearches.{guide_under, pick_under};
+ghost use Rattle.ht_tree.specs.Walk.Walks.{Node, root};
+ghost use Rattle.ht_tree.specs.Walk.Searches.{node_at};
+ghost use Rattle.ht_tree.specs.Walk.Counts.{Measures, most_tokens};
+ghost use Rattle.ht_tree.specs.Clause.ClauseWindows.{is_one_frame, status_under};
+ghost use Rattle.ht_tree.specs.Clause.ClauseSearches.{guide_under, pick_under};
 ghost use Rattle.ht_search.specs.Outcomes.{IsClosed, IsOutcome, IsSpent};
 ghost use Rattle.ht_search.specs.WindowSteps.{route_of, steps_under};
 ghost use Rattle.ht_window.specs.Shallow.{window_shallow};
@@ -67,7 +67,7 @@ impl<'c, 'k> ClauseTrial<'c, 'k> {
 }
 
 impl<'c, 'k> Problem for ClauseTrial<'c, 'k> {
-    ghost use Rattle.ht_tree.specs.ClauseWindows.{ClauseWindow};
+    ghost use Rattle.ht_tree.specs.Clause.ClauseWindows.{ClauseWindow};
 
     ghost Subject = { ClauseWindow };
 

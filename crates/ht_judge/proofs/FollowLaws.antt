@@ -7,16 +7,16 @@ use Rattle.std.proofs.lemmas.List.{get_or_append_left, map-append}
 use Rattle.std.proofs.lemmas.List.Elements.{All-cons, All-head, All-nil, All-push, All-tail, Contains-push}
 use Rattle.ht_tern.specs.declared.tern.Tern.{Tern}
 use Rattle.ht_net.specs.declared.place.Place.{Place}
-use Rattle.ht_net.specs.Netlist.{Netlist}
-use Rattle.ht_net.specs.Detection.{IsFirstFrom}
+use Rattle.ht_net.specs.Circuit.Netlist.{Netlist}
+use Rattle.ht_net.specs.Detect.Detection.{IsFirstFrom}
 use Rattle.ht_faults.specs.Sites.{faults_of}
 use Rattle.ht_faults.specs.Classes.{fault_at}
 use Rattle.ht_proofs.specs.Detections.{AreFirstDetections, place_at}
 use Rattle.ht_tree.specs.declared.entry.Entry.{Entry}
 use Rattle.ht_tree.specs.declared.kind.EntryKind.{EntryKind}
 use Rattle.ht_tree.specs.declared.kind.EntryKind.TheVariants as kinds
-use Rattle.ht_tree.specs.Entries.{AllowsEntry, Passes, kind_of}
-use Rattle.ht_tree.specs.Rising.{Rises}
+use Rattle.ht_tree.specs.Record.Entries.{AllowsEntry, Passes, kind_of}
+use Rattle.ht_tree.specs.Record.Rising.{Rises}
 use Rattle.ht_texts.specs.declared.said.Said.{Said}
 use Rattle.ht_texts.specs.declared.said.Said.TheVariants.{Detected, Untestable, Undetectable, Aborted, Undetected}
 use Rattle.ht_texts.specs.Verdicts.{said_at, said_of, saids_of}

@@ -4,7 +4,7 @@ use Rattle.std.specs.List.{All}
 use Rattle.std.proofs.lemmas.List.Elements.{All-cons, All-head, All-nil, All-tail}
 use Rattle.ht_tern.specs.declared.tern.Tern.{Tern}
 use Rattle.ht_ports.specs.LineRule.{lines_of, max_text_bytes}
-use Rattle.ht_net.specs.Netlist.{IsCircuit, Netlist}
+use Rattle.ht_net.specs.Circuit.Netlist.{IsCircuit, Netlist}
 use Rattle.ht_faults.specs.Classes.{AreClasses, fault_at}
 use Rattle.ht_proofs.proofs.DetectionLaws.{detected_within}
 use Rattle.ht_texts.specs.declared.said.Said.{Said}

@@ -6,8 +6,8 @@ use Rattle.std.proofs.lemmas.List.{append-nil}
 use Rattle.ht_tern.specs.declared.tern.Tern.{Tern}
 use Rattle.ht_net.specs.declared.fault.Fault.{Fault}
 use Rattle.ht_net.specs.declared.place.Place.{Place}
-use Rattle.ht_net.specs.Netlist.{Netlist}
-use Rattle.ht_net.specs.Detection.{IsFirstFrom}
+use Rattle.ht_net.specs.Circuit.Netlist.{Netlist}
+use Rattle.ht_net.specs.Detect.Detection.{IsFirstFrom}
 use Rattle.ht_faults.specs.Sites.{faults_of}
 use Rattle.ht_faults.specs.Classes.{fault_at, is_representative}
 use Rattle.ht_texts.specs.declared.item.Item.{Item}

@@ -1,6 +1,6 @@
 -- What the calls that a line of proofs makes find: of the entry that it ends, and of the entries that are due with it.
 use Rattle.std.specs.Prelude.{◌≡◌, ◌≢◌, ◌<◌, ◌≤◌, ◌+◌, ◌-◌, ℕ, List, [], Bool, true, false, length, min, Option, Some, None, Result, Ok, Err, IsOk}
-use Rattle.ht_net.specs.Netlist.{Netlist}
+use Rattle.ht_net.specs.Circuit.Netlist.{Netlist}
 use Rattle.ht_faults.specs.Classes.{is_representative}
 use Rattle.ht_texts.specs.declared.said.Said.{Said}
 use Rattle.ht_texts.specs.declared.said.Said.TheVariants.{Detected}
@@ -12,7 +12,7 @@ use Rattle.ht_entries.specs.ReaderStands.{ProofCalled, ProofReaderView}
 use Rattle.ht_entries.specs.declared.text_error.TextError.{TextError}
 use Rattle.ht_entries.specs.declared.text_error.TextError.TheVariants as read
 use Rattle.ht_tree.specs.declared.kind.EntryKind.{EntryKind}
-use Rattle.ht_tree.specs.Entries.{kind_of}
+use Rattle.ht_tree.specs.Record.Entries.{kind_of}
 use Rattle.ht_valid.specs.ValidFiles.{Content, IsBacking, NeedsEntry, said_by_kind}
 use Rattle.ht_valid.specs.declared.trouble.Trouble.TheVariants.{Proofs, Fault}
 use Rattle.ht_judge.specs.declared.judge_error.JudgeError.{JudgeError}

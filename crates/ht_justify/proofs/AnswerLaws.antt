@@ -2,13 +2,13 @@
 use Rattle.std.proofs.Common.{◌≡◌, ◌∙◌, ℕ, List, true, length, refl, sym, ap, subst}
 use Rattle.std.proofs.lemmas.Bool.{both_ways}
 use Rattle.ht_tern.specs.declared.tern.Tern.{Tern}
-use Rattle.ht_net.specs.Netlist.{Netlist}
-use Rattle.ht_net.specs.Rows.{Rows}
-use Rattle.ht_tree.specs.Walks.{Node}
-use Rattle.ht_tree.specs.Windows.{SearchWindow, back_window}
-use Rattle.ht_tree.specs.Searches.{guide_of}
-use Rattle.ht_tree.specs.FoundLists.{back_list}
-use Rattle.ht_tree.specs.AimedAttempts.{is_wanting}
+use Rattle.ht_net.specs.Circuit.Netlist.{Netlist}
+use Rattle.ht_net.specs.Frames.Rows.{Rows}
+use Rattle.ht_tree.specs.Walk.Walks.{Node}
+use Rattle.ht_tree.specs.Window.Windows.{SearchWindow, back_window}
+use Rattle.ht_tree.specs.Walk.Searches.{guide_of}
+use Rattle.ht_tree.specs.Walk.FoundLists.{back_list}
+use Rattle.ht_tree.specs.Record.AimedAttempts.{is_wanting}
 use Rattle.ht_search.specs.declared.outcome.Outcome.{Outcome}
 use Rattle.ht_search.specs.declared.outcome.Outcome.TheVariants.{Found, Closed, Spent}
 use Rattle.ht_search.specs.Outcomes.{IsOutcome}

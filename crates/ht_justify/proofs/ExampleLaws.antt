@@ -2,14 +2,14 @@
 use Rattle.std.proofs.Common.{List, [], ◌∷◌, refl, arith}
 use Rattle.ht_tern.specs.declared.tern.Tern.TheVariants.{Zero, One}
 use Rattle.ht_pairs.specs.Pairs.{lifted_set, stuck_set, set_of}
-use Rattle.ht_net.specs.Frame.{net_value, net_value_within, net_value_over, driver_value, gate_output, next_state}
-use Rattle.ht_net.specs.Faults.{forced}
+use Rattle.ht_net.specs.Frames.Frame.{net_value, net_value_within, net_value_over, driver_value, gate_output, next_state}
+use Rattle.ht_net.specs.Frames.Faults.{forced}
 use Rattle.ht_tree.specs.declared.token.Token.{Token}
 use Rattle.ht_tree.specs.declared.token.Token.TheVariants as token
-use Rattle.ht_tree.specs.Walks.{Node}
-use Rattle.ht_tree.specs.Windows.{back_window, latches_at}
-use Rattle.ht_tree.specs.Searches.{SpendsAt, guide_of}
-use Rattle.ht_tree.specs.WalkBack.{back_over, choice_at}
+use Rattle.ht_tree.specs.Walk.Walks.{Node}
+use Rattle.ht_tree.specs.Window.Windows.{back_window, latches_at}
+use Rattle.ht_tree.specs.Walk.Searches.{SpendsAt, guide_of}
+use Rattle.ht_tree.specs.Window.WalkBack.{back_over, choice_at}
 use Rattle.ht_tree.proofs.ExampleLaws.{toggle}
 
 -- Back from q at 0: the value 0 before it is dead, and the value 1 goes on; before that the value 0 goes on at once.

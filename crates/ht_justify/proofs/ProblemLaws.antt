@@ -2,18 +2,18 @@
 use Rattle.std.proofs.Common.{◌≡◌, ◌<◌, ◌-◌, ◌++◌, ◌&&◌, ℕ, List, [], ◌∷◌, reverse, false, ltb, length, get_or, sym, ◌∙◌, ap, subst, arith}
 use Rattle.std.proofs.lemmas.List.{reverse-append, length-map, length-reverse, get_or-map, get_or-reverse}
 use Rattle.ht_tern.specs.declared.tern.Tern.{Tern}
-use Rattle.ht_net.specs.Netlist.{Netlist}
+use Rattle.ht_net.specs.Circuit.Netlist.{Netlist}
 use Rattle.ht_tree.specs.declared.token.Assign3.{Assign3}
 use Rattle.ht_tree.specs.declared.token.Choice.{Choice}
 use Rattle.ht_tree.specs.declared.token.Status3.TheVariants as status3
-use Rattle.ht_tree.specs.Walks.{Node, Fits, decides, path_of}
-use Rattle.ht_tree.specs.Searches.{guide_of, deciding_token}
-use Rattle.ht_tree.specs.Windows.{SearchWindow, back_window}
-use Rattle.ht_tree.specs.WindowStatus.{status_at, without_place}
-use Rattle.ht_tree.specs.Variables.{IsLegalChoice}
-use Rattle.ht_tree.specs.Nodes.{cube_of, may_go_before, window_at}
-use Rattle.ht_tree.specs.WalkBack.{pick_of}
-use Rattle.ht_tree.specs.AimedAttempts.{is_wanting}
+use Rattle.ht_tree.specs.Walk.Walks.{Node, Fits, decides, path_of}
+use Rattle.ht_tree.specs.Walk.Searches.{guide_of, deciding_token}
+use Rattle.ht_tree.specs.Window.Windows.{SearchWindow, back_window}
+use Rattle.ht_tree.specs.Window.WindowStatus.{status_at, without_place}
+use Rattle.ht_tree.specs.Window.Variables.{IsLegalChoice}
+use Rattle.ht_tree.specs.Window.Nodes.{cube_of, may_go_before, window_at}
+use Rattle.ht_tree.specs.Window.WalkBack.{pick_of}
+use Rattle.ht_tree.specs.Record.AimedAttempts.{is_wanting}
 use Rattle.ht_search.specs.Legal.{MayDecide}
 use Rattle.ht_search.proofs.WindowStepLaws.{window_path}
 use Rattle.ht_window.specs.States.{WindowState, IsLegalDecision}

@@ -3,12 +3,12 @@ use Rattle.std.proofs.Common.{◌≡◌, ◌<◌, ◌-◌, ℕ, suc, zero, List,
 use Rattle.std.proofs.lemmas.List.{reverse-reverse, reverse-append, map-append, length-append}
 use Rattle.std.proofs.Math.Seq.{drop-cons}
 use Rattle.ht_tern.specs.declared.tern.Tern.{Tern}
-use Rattle.ht_net.specs.Netlist.{Netlist}
+use Rattle.ht_net.specs.Circuit.Netlist.{Netlist}
 use Rattle.ht_tree.specs.declared.token.Assign3.{Assign3}
-use Rattle.ht_tree.specs.Walks.{Node, path_of}
-use Rattle.ht_tree.specs.Windows.{SearchWindow, back_window}
-use Rattle.ht_tree.specs.Nodes.{IsNode, cube_of, window_at, window_below}
-use Rattle.ht_tree.specs.FoundLists.{back_list, vector_of, vectors_above}
+use Rattle.ht_tree.specs.Walk.Walks.{Node, path_of}
+use Rattle.ht_tree.specs.Window.Windows.{SearchWindow, back_window}
+use Rattle.ht_tree.specs.Window.Nodes.{IsNode, cube_of, window_at, window_below}
+use Rattle.ht_tree.specs.Walk.FoundLists.{back_list, vector_of, vectors_above}
 use Rattle.ht_tree.proofs.NodeLaws.{window_kept, node_kept, window_opened, node_opened}
 use Rattle.ht_search.specs.WindowSteps.{Step, Decides, node_of, steps_of, steps_above, steps_under}
 use Rattle.ht_search.proofs.WindowStepLaws.{window_path}

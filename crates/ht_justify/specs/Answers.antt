@@ -1,17 +1,17 @@
 -- What the justification of a cube answers, and what that means.
 use Rattle.std.specs.Prelude.{◌≡◌, ◌≤◌, ℕ, List, [], Bool, true, false, length}
 use Rattle.ht_tern.specs.declared.tern.Tern.{Tern}
-use Rattle.ht_net.specs.Netlist.{Netlist}
-use Rattle.ht_net.specs.Rows.{Rows}
+use Rattle.ht_net.specs.Circuit.Netlist.{Netlist}
+use Rattle.ht_net.specs.Frames.Rows.{Rows}
 use Rattle.ht_tree.specs.declared.token.Token.{Token}
-use Rattle.ht_tree.specs.Walks.{Node, IsComplete}
-use Rattle.ht_tree.specs.Windows.{back_window}
-use Rattle.ht_tree.specs.Nodes.{judge_of}
-use Rattle.ht_tree.specs.Searches.{FindsAt, Closes, SpendsAt, guide_of}
-use Rattle.ht_tree.specs.FoundLists.{back_list}
-use Rattle.ht_tree.specs.Reached.{AreVectors, Reaches}
-use Rattle.ht_tree.specs.SearchRecords.{IsSpentWalk}
-use Rattle.ht_tree.specs.AimedAttempts.{is_wanting}
+use Rattle.ht_tree.specs.Walk.Walks.{Node, IsComplete}
+use Rattle.ht_tree.specs.Window.Windows.{back_window}
+use Rattle.ht_tree.specs.Window.Nodes.{judge_of}
+use Rattle.ht_tree.specs.Walk.Searches.{FindsAt, Closes, SpendsAt, guide_of}
+use Rattle.ht_tree.specs.Walk.FoundLists.{back_list}
+use Rattle.ht_tree.specs.Record.Reached.{AreVectors, Reaches}
+use Rattle.ht_tree.specs.Record.SearchRecords.{IsSpentWalk}
+use Rattle.ht_tree.specs.Record.AimedAttempts.{is_wanting}
 use Rattle.ht_search.specs.declared.outcome.Outcome.{Outcome}
 use Rattle.ht_search.specs.declared.outcome.Outcome.TheVariants as outcome
 use Rattle.ht_justify.specs.declared.justification.Back.{Back}

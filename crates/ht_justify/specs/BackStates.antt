@@ -1,10 +1,10 @@
 -- The windows of a search back as contracts see them.
 use Rattle.std.specs.Prelude.{◌≡◌, ◌≤◌, List, ◌∷◌, length, reverse}
 use Rattle.ht_tree.specs.declared.token.Assign3.{Assign3}
-use Rattle.ht_net.specs.Rows.{Rows}
-use Rattle.ht_tree.specs.Walks.{Node}
-use Rattle.ht_tree.specs.Windows.{SearchWindow, back_window}
-use Rattle.ht_tree.specs.FoundLists.{back_list}
+use Rattle.ht_net.specs.Frames.Rows.{Rows}
+use Rattle.ht_tree.specs.Walk.Walks.{Node}
+use Rattle.ht_tree.specs.Window.Windows.{SearchWindow, back_window}
+use Rattle.ht_tree.specs.Walk.FoundLists.{back_list}
 use Rattle.ht_search.specs.WindowSteps.{node_of, steps_under}
 use Rattle.ht_justify.specs.Stacks.{AreUnder, decisions_of}
 use Rattle.ht_justify.specs.declared.back_windows.BackWindows.TheInside.{Inside}

@@ -1,10 +1,10 @@
 -- Back windows that stand one under the other.
 use Rattle.std.specs.Prelude.{◌≡◌, ◌-◌, ℕ, List, [], ◌∷◌, map, length}
 use Rattle.ht_tern.specs.declared.tern.Tern.{Tern}
-use Rattle.ht_net.specs.Netlist.{Netlist}
+use Rattle.ht_net.specs.Circuit.Netlist.{Netlist}
 use Rattle.ht_tree.specs.declared.token.Assign3.{Assign3}
-use Rattle.ht_tree.specs.Windows.{SearchWindow, back_window}
-use Rattle.ht_tree.specs.Nodes.{cube_of}
+use Rattle.ht_tree.specs.Window.Windows.{SearchWindow, back_window}
+use Rattle.ht_tree.specs.Window.Nodes.{cube_of}
 use Rattle.ht_search.specs.Routes.{Route}
 use Rattle.ht_search.specs.WindowSteps.{route_of, steps_under}
 use Rattle.ht_window.specs.States.{WindowState}

@@ -1,8 +1,8 @@
 //! The windows of a search back, each one frame earlier than the one above it.
 ghost use Rattle.std.specs.Prelude.{◌≡◌, ◌≤◌, ◌∷◌, ℕ, List, [], length, reverse, vec_len, IfOk};
 ghost use Rattle.ht_tern.specs.declared.tern.Tern.{Tern};
-ghost use Rattle.ht_net.specs.Netlist.{Netlist};
-ghost use Rattle.ht_tree.specs.Windows.{back_window};
+ghost use Rattle.ht_net.specs.Circuit.Netlist.{Netlist};
+ghost use Rattle.ht_tree.specs.Window.Windows.{back_window};
 ghost use Rattle.ht_search.specs.Routes.{Stands, back_to, stops};
 ghost use Rattle.ht_justify.specs.Stacks.{AreUnder, route_at};
 ghost use Rattle.ht_justify.specs.BackStates.{found_list};

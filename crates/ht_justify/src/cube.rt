@@ -1,7 +1,7 @@
 //! Cubes: the values that are wanted of latches, unknown where none is.
 ghost use Rattle.std.specs.Prelude.{◌≡◌, IfOk};
-ghost use Rattle.ht_tree.specs.Nodes.{cube_of, or_unknown};
-ghost use Rattle.ht_tree.specs.AimedAttempts.{is_wanting};
+ghost use Rattle.ht_tree.specs.Window.Nodes.{cube_of, or_unknown};
+ghost use Rattle.ht_tree.specs.Record.AimedAttempts.{is_wanting};
 
 use ht_items::Items;
 use ht_tern::Tern;

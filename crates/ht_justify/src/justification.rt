@@ -1,9 +1,9 @@
 //! The justification of a cube.
 ghost use Rattle.std.specs.Prelude.{◌≡◌, ℕ, List, [], true, length, IfOk};
 ghost use Rattle.ht_tern.specs.declared.tern.Tern.{Tern};
-ghost use Rattle.ht_net.specs.Netlist.{Netlist};
-ghost use Rattle.ht_tree.specs.AimedAttempts.{is_wanting};
-ghost use Rattle.ht_tree.specs.Windows.{back_window};
+ghost use Rattle.ht_net.specs.Circuit.Netlist.{Netlist};
+ghost use Rattle.ht_tree.specs.Record.AimedAttempts.{is_wanting};
+ghost use Rattle.ht_tree.specs.Window.Windows.{back_window};
 ghost use Rattle.ht_justify.specs.BackStates.{found_list};
 ghost use Rattle.ht_justify.specs.Answers.{BackHolds, IsBack, answer_of};
 

@@ -1,5 +1,5 @@
 //! The windows of a search back as a problem of the search.
-ghost use Rattle.ht_tree.specs.Searches.{guide_of};
+ghost use Rattle.ht_tree.specs.Walk.Searches.{guide_of};
 ghost use Rattle.ht_search.specs.WindowSteps.{route_of, steps_under};
 ghost use Rattle.ht_window.specs.Shallow.{window_shallow};
 
@@ -13,7 +13,7 @@ use std::alloc::AllocError;
 use std::mem;
 
 impl<'c, 's> Problem for BackWindows<'c, 's> {
-    ghost use Rattle.ht_tree.specs.Windows.{SearchWindow};
+    ghost use Rattle.ht_tree.specs.Window.Windows.{SearchWindow};
 
     ghost Subject = { SearchWindow };
 

@@ -3,7 +3,7 @@ use Rattle.std.proofs.Common.{◌≡◌, ◌+◌, ◌<◌, ℕ, zero, suc, List,
 use Rattle.ht_tern.specs.declared.tern.Tern.{Tern}
 use Rattle.ht_tern.specs.declared.tern.Tern.TheVariants.{Unk}
 use Rattle.ht_tern.specs.Gate.{StandsFor}
-use Rattle.ht_net.specs.Detection.{Allows}
+use Rattle.ht_net.specs.Detect.Detection.{Allows}
 
 -- one latch more
 more_by_suc : (start : List Tern) (state : List Bool) (k : ℕ) → k < length start → k < length state

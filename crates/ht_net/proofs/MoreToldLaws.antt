@@ -8,10 +8,10 @@ use Rattle.ht_tern.specs.Gate.{AllRelated, Refines, gate_value, tern_of}
 use Rattle.ht_tern.specs.Opposite.{Opposite}
 use Rattle.ht_tern.proofs.GateLaws.{gate_refines}
 use Rattle.ht_net.specs.declared.fault.Fault.{Fault}
-use Rattle.ht_net.specs.Netlist.{Netlist}
-use Rattle.ht_net.specs.Frame.{Rules, next_state, run_outputs, run_state}
-use Rattle.ht_net.specs.Faults.{tern_rules}
-use Rattle.ht_net.specs.Detection.{Detects, DetectsFrom, IsStart, output_from, outputs_from, state_from, terns_of, unknown_state}
+use Rattle.ht_net.specs.Circuit.Netlist.{Netlist}
+use Rattle.ht_net.specs.Frames.Frame.{Rules, next_state, run_outputs, run_state}
+use Rattle.ht_net.specs.Frames.Faults.{tern_rules}
+use Rattle.ht_net.specs.Detect.Detection.{Detects, DetectsFrom, IsStart, output_from, outputs_from, state_from, terns_of, unknown_state}
 use Rattle.ht_net.proofs.FaultLaws.{rules_keep}
 use Rattle.ht_net.proofs.RelationLaws.{Preserves, get_related, run_related}
 use Rattle.ht_net.proofs.ValueLaws.{next_long}

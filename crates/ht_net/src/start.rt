@@ -1,6 +1,6 @@
 //! Starts: what each flip-flop holds before the first vector.
 ghost use Rattle.std.specs.Prelude.{◌≡◌, ◌↔◌, IfOk, IsTrue};
-ghost use Rattle.ht_net.specs.Detection.{Allows, some_bit, some_state, unknown_state};
+ghost use Rattle.ht_net.specs.Detect.Detection.{Allows, some_bit, some_state, unknown_state};
 
 use crate::circuit::Circuit;
 use ht_tern::{Tern, refines};

@@ -1,9 +1,9 @@
 //! One round: the search of a one-frame window.
 ghost use Rattle.std.specs.Prelude.{◌≡◌, ℕ, List, [], length, IfOk};
-ghost use Rattle.ht_net.specs.Netlist.{Netlist};
-ghost use Rattle.ht_tree.specs.Windows as windows;
+ghost use Rattle.ht_net.specs.Circuit.Netlist.{Netlist};
+ghost use Rattle.ht_tree.specs.Window.Windows as windows;
 ghost use Rattle.ht_window.specs.Starts.{marked};
-ghost use Rattle.ht_tree.specs.Searches.{Guide, node_at};
+ghost use Rattle.ht_tree.specs.Walk.Searches.{Guide, node_at};
 ghost use Rattle.ht_search.specs.Outcomes.{IsOutcome};
 ghost use Rattle.ht_oneframe.specs.Rounds.{IsRound, LeavesSure, guide_in};
 

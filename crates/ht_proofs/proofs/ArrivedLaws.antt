@@ -8,9 +8,9 @@ use Rattle.ht_tern.specs.Opposite.{Opposite, are_opposite}
 use Rattle.ht_tern.proofs.OppositeLaws.{opposite_tested}
 use Rattle.ht_net.specs.declared.fault.Fault.{Fault}
 use Rattle.ht_net.specs.declared.place.Place.{Place}
-use Rattle.ht_net.specs.Netlist.{Netlist}
-use Rattle.ht_net.specs.Frame.{Rules, frame_outputs, net_value, next_state}
-use Rattle.ht_net.specs.Faults.{tern_rules}
+use Rattle.ht_net.specs.Circuit.Netlist.{Netlist}
+use Rattle.ht_net.specs.Frames.Frame.{Rules, frame_outputs, net_value, next_state}
+use Rattle.ht_net.specs.Frames.Faults.{tern_rules}
 use Rattle.ht_net.proofs.ValueLaws.{seen_length}
 use Rattle.ht_stems.specs.declared.arrival.Arrival.{Arrival}
 use Rattle.ht_stems.specs.declared.arrival.Arrival.TheVariants.{Dies, AtLatch, AtOutput, AtStem}

@@ -12,8 +12,8 @@ use Rattle.ht_tern.specs.declared.tern.Tern.{Tern}
 use Rattle.ht_tern.specs.declared.tern.Tern.TheVariants.{Zero, One, Unk}
 use Rattle.ht_net.specs.declared.net.NetId.{NetId}
 use Rattle.ht_net.specs.declared.fault.Fault.{Fault}
-use Rattle.ht_net.specs.Netlist.{Netlist}
-use Rattle.ht_net.specs.Faults.{tern_rules}
+use Rattle.ht_net.specs.Circuit.Netlist.{Netlist}
+use Rattle.ht_net.specs.Frames.Faults.{tern_rules}
 use Rattle.ht_net.proofs.FrameLaws.{le_or_lt}
 use Rattle.ht_stems.specs.declared.arrival.Arrival.{Arrival}
 use Rattle.ht_stems.specs.declared.arrival.Arrival.TheVariants.{Dies, AtLatch, AtOutput, AtStem}

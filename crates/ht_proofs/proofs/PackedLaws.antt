@@ -13,14 +13,14 @@ use Rattle.ht_net.specs.declared.fault.Site.{Site}
 use Rattle.ht_net.specs.declared.fault.Site.TheVariants.{Stem, DffPin, GatePin}
 use Rattle.ht_net.specs.declared.fault.Fault.{Fault}
 use Rattle.ht_net.specs.declared.place.Place.{Place}
-use Rattle.ht_net.specs.Netlist.{Netlist}
-use Rattle.ht_net.specs.Faults.{tern_rules}
+use Rattle.ht_net.specs.Circuit.Netlist.{Netlist}
+use Rattle.ht_net.specs.Frames.Faults.{tern_rules}
 use Rattle.ht_net.proofs.FrameLaws.{le_or_lt}
 use Rattle.ht_faults.specs.FaultList.{no_fault}
 use Rattle.ht_faults.specs.Sites.{IsFaultSite, faults_of}
 use Rattle.ht_faults.proofs.MemberLaws.{fault_site}
 use Rattle.ht_group.specs.Differences.{held, value_but, with_differences}
-use Rattle.ht_net.specs.Detection.{IsStart}
+use Rattle.ht_net.specs.Detect.Detection.{IsStart}
 use Rattle.ht_stems.specs.Arrivals.{HasLine}
 use Rattle.ht_group.specs.GroupView.{GroupView, FaultyMachine, AreLatches, words_for}
 use Rattle.ht_proofs.specs.declared.grade.Grade.{Grade}

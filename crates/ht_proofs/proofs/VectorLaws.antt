@@ -8,10 +8,10 @@ use Rattle.ht_tern.specs.declared.tern.Tern.TheVariants.{Unk}
 use Rattle.ht_tern.specs.Opposite.{Opposite}
 use Rattle.ht_net.specs.declared.fault.Fault.{Fault}
 use Rattle.ht_net.specs.declared.place.Place.{Place}
-use Rattle.ht_net.specs.Netlist.{Netlist}
-use Rattle.ht_net.specs.Frame.{Rules, run_state, run_outputs, next_state, frame_outputs}
-use Rattle.ht_net.specs.Faults.{tern_rules}
-use Rattle.ht_net.specs.Detection.{ApartFrom, DetectsFrom, IsBefore, IsFirstFrom, output_from, outputs_from, state_from, terns_of}
+use Rattle.ht_net.specs.Circuit.Netlist.{Netlist}
+use Rattle.ht_net.specs.Frames.Frame.{Rules, run_state, run_outputs, next_state, frame_outputs}
+use Rattle.ht_net.specs.Frames.Faults.{tern_rules}
+use Rattle.ht_net.specs.Detect.Detection.{ApartFrom, DetectsFrom, IsBefore, IsFirstFrom, output_from, outputs_from, state_from, terns_of}
 use Rattle.ht_net.proofs.FrameLaws.{le_or_lt}
 use Rattle.ht_net.proofs.ApartLaws.{detected_apart_from}
 use Rattle.ht_serial.proofs.ContradictionLaws.{opposite_inside, opposite_within}

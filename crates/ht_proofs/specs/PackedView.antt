@@ -4,8 +4,8 @@ use Rattle.std.specs.List.{slice_get}
 use Rattle.ht_tern.specs.declared.tern.Tern.{Tern}
 use Rattle.ht_net.specs.declared.fault.Fault.{Fault}
 use Rattle.ht_net.specs.declared.place.Place.{Place}
-use Rattle.ht_net.specs.Netlist.{Netlist}
-use Rattle.ht_net.specs.Detection.{IsFirstFrom, state_from}
+use Rattle.ht_net.specs.Circuit.Netlist.{Netlist}
+use Rattle.ht_net.specs.Detect.Detection.{IsFirstFrom, state_from}
 use Rattle.ht_faults.specs.FaultList.{no_fault}
 
 -- What a grader keeps of the given faults.

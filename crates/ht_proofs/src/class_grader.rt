@@ -2,7 +2,7 @@
 ghost use Rattle.std.specs.Prelude.{◌≡◌, ◌<◌, ◌++◌, [], List, Bool, None, Some, true, false, length, get_or, IfOk, IsErr, OnErr, OnOk};
 ghost use Rattle.std.specs.Option.{ForSome};
 ghost use Rattle.ht_tern.specs.declared.tern.Tern as tern;
-ghost use Rattle.ht_net.specs.Detection.{IsPlace, IsStart, state_from};
+ghost use Rattle.ht_net.specs.Detect.Detection.{IsPlace, IsStart, state_from};
 ghost use Rattle.ht_faults.specs.Sites.{faults_of};
 ghost use Rattle.ht_faults.specs.Classes.{AreClasses, fault_at, is_representative, own_representatives};
 ghost use Rattle.ht_proofs.specs.PackedView.{GraderStandsFor};

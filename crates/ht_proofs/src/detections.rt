@@ -3,7 +3,7 @@ ghost use Rattle.std.specs.Prelude.{◌≡◌, IfOk};
 ghost use Rattle.ht_faults.specs.Sites.{faults_of};
 ghost use Rattle.ht_faults.specs.Classes.{AreClasses};
 ghost use Rattle.ht_proofs.specs.Detections.{AreFirstDetections, AreWithin};
-ghost use Rattle.ht_net.specs.Detection.{IsStart, unknown_state};
+ghost use Rattle.ht_net.specs.Detect.Detection.{IsStart, unknown_state};
 
 use crate::class_grader::ClassGrader;
 use ht_faults::{Classes, FaultList};

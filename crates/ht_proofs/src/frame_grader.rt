@@ -2,7 +2,7 @@
 ghost use Rattle.std.specs.Prelude.{◌≡◌, ◌↔◌, ◌<◌, ◌≤◌, ◌+◌, ◌*◌, ◌/◌, ℕ, [], None, Some, true, length, replicate, IfOk, IsTrue, OnOk};
 ghost use Rattle.std.specs.List.{All, count_by, slice_get};
 ghost use Rattle.ht_net.specs.declared.fault.Fault.{Fault};
-ghost use Rattle.ht_net.specs.Netlist.{net_count};
+ghost use Rattle.ht_net.specs.Circuit.Netlist.{net_count};
 ghost use Rattle.ht_stems.specs.Arrivals.{HasLine};
 ghost use Rattle.ht_stems.specs.ArrivedFrames.{AreGoodValues};
 ghost use Rattle.ht_stems.specs.ArrivalsView.{good_of_net};
@@ -32,7 +32,7 @@ pub struct FrameGrader<'c> {
 
 impl<'c> Model for FrameGrader<'c> {
     ghost use Rattle.std.specs.Prelude.{◌≡◌, length};
-    ghost use Rattle.ht_net.specs.Netlist.{net_count};
+    ghost use Rattle.ht_net.specs.Circuit.Netlist.{net_count};
     ghost use Rattle.ht_proofs.specs.Batches.{BatchView};
 
     ghost Value = { BatchView };

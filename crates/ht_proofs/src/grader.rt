@@ -4,7 +4,7 @@ ghost use Rattle.std.specs.List.{All, filter, range_with_len};
 ghost use Rattle.std.specs.Option.{ForSome};
 ghost use Rattle.ht_tern.specs.declared.tern.Tern as tern;
 ghost use Rattle.ht_tern.specs.declared.tern.Tern.TheVariants.{Unk};
-ghost use Rattle.ht_net.specs.Detection.{IsPlace, IsStart, unknown_state};
+ghost use Rattle.ht_net.specs.Detect.Detection.{IsPlace, IsStart, unknown_state};
 ghost use Rattle.ht_faults.specs.Sites.{faults_of};
 ghost use Rattle.ht_proofs.specs.PackedView.{GraderStandsFor, chosen_faults, grades_at_start, state_at, verdict_at};
 ghost use Rattle.ht_proofs.specs.Applied.{IsApplied, groups_of, max_steps};

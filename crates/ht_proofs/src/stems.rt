@@ -1,7 +1,7 @@
 //! Where the effects of the faults of a frame end whose machines hold the good latches.
 ghost use Rattle.std.specs.Prelude.{◌≡◌, ◌≢◌, ◌<◌, ℕ, [], Some, None, true, length, replicate, IfOk, OnOk};
 ghost use Rattle.ht_tern.specs.declared.tern.Tern.{Tern};
-ghost use Rattle.ht_net.specs.Netlist.{net_count};
+ghost use Rattle.ht_net.specs.Circuit.Netlist.{net_count};
 ghost use Rattle.ht_stems.specs.Arrivals.{HasLine};
 ghost use Rattle.ht_stems.specs.ArrivedFrames.{AreGoodValues};
 ghost use Rattle.ht_stems.specs.ArrivalsView.{good_of_net};

@@ -4,7 +4,7 @@ ghost use Rattle.std.specs.List.{slice_get};
 ghost use Rattle.ht_tern.specs.declared.tern.Tern.{Tern};
 ghost use Rattle.ht_net.specs.declared.fault.Fault.{Fault};
 ghost use Rattle.ht_net.specs.declared.place.Place.{Place};
-ghost use Rattle.ht_net.specs.Detection.{ApartFrom};
+ghost use Rattle.ht_net.specs.Detect.Detection.{ApartFrom};
 ghost use Rattle.ht_proofs.specs.PackedView.{GraderStandsFor, PackedView, verdict_at};
 ghost use Rattle.ht_proofs.specs.Applied.{IsApplied};
 

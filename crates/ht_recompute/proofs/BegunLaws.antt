@@ -3,10 +3,10 @@ use Rattle.std.proofs.Common.{◌≡◌, ◌≤◌, ◌+◌, ◌*◌, List, Opti
 use Rattle.std.specs.Vec.{with_items}
 use Rattle.std.proofs.lemmas.List.{with_items_is}
 use Rattle.ht_tern.specs.declared.tern.Tern.{Tern}
-use Rattle.ht_recompute.specs.declared.fresh_window.FreshWindow.TheInside.{Inside}
-use Rattle.ht_recompute.specs.FreshStarts.{latches_by}
+use Rattle.ht_recompute.specs.declared.recomputed_window.RecomputedWindow.TheInside.{Inside}
+use Rattle.ht_recompute.specs.WindowStarts.{latches_by}
 use Rattle.ht_recompute.specs.FrameSetsOf.{FrameState, frame_after, inputs_by}
-use Rattle.ht_recompute.specs.FreshWindowOf.{HasWindowRoom}
+use Rattle.ht_recompute.specs.RecomputedWindowOf.{HasWindowRoom}
 
 -- There is room for these decisions, and the frame has the latches that they give.
 pub record IsFrameBegun (a : Inside) (decisions : List (Option Tern)) (s : FrameState) : Type 0 where

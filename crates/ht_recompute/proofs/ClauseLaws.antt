@@ -6,20 +6,20 @@ use Rattle.std.proofs.lemmas.List.Folds.{list_all-map}
 use Rattle.ht_tern.specs.declared.tern.Tern.{Tern}
 use Rattle.ht_tern.specs.Gate.{tern_of}
 use Rattle.ht_pairs.specs.Pairs.{Pair, pair, is_member}
-use Rattle.ht_net.specs.Netlist.{Netlist}
+use Rattle.ht_net.specs.Circuit.Netlist.{Netlist}
 use Rattle.ht_tree.specs.declared.token.Assign3.{Assign3}
 use Rattle.ht_tree.specs.declared.token.Status3.{Status3}
 use Rattle.ht_tree.specs.declared.token.Status3.TheVariants.{Dead, Sure, Open}
 use Rattle.ht_tree.specs.declared.window.Spot.TheVariants.{State}
-use Rattle.ht_tree.specs.Places.{set_at}
-use Rattle.ht_tree.specs.Windows.{SearchWindow, is_undetermined}
+use Rattle.ht_tree.specs.Window.Places.{set_at}
+use Rattle.ht_tree.specs.Window.Windows.{SearchWindow, is_undetermined}
 use Rattle.ht_tree.specs.declared.clause.Clause.{Clause}
 use Rattle.ht_tree.specs.declared.clause.Literal.{Literal}
-use Rattle.ht_tree.specs.Clauses.{AreKnown, is_decided_against, is_decided_to, latch_value, literals_of, literals_of_each, path_breaks, path_meets}
-use Rattle.ht_tree.specs.ClauseWindows.{breach_status, may_miss, must_miss, open_if_sure, under_clauses}
+use Rattle.ht_tree.specs.Clause.Clauses.{AreKnown, is_decided_against, is_decided_to, latch_value, literals_of, literals_of_each, path_breaks, path_meets}
+use Rattle.ht_tree.specs.Clause.ClauseWindows.{breach_status, may_miss, must_miss, open_if_sure, under_clauses}
 use Rattle.std.specs.Vec.{with_items}
-use Rattle.ht_recompute.specs.declared.fresh_window.FreshWindow.TheInside.{Inside}
-use Rattle.ht_recompute.specs.FreshWindowOf.{HasWindowRoom, window_of}
+use Rattle.ht_recompute.specs.declared.recomputed_window.RecomputedWindow.TheInside.{Inside}
+use Rattle.ht_recompute.specs.RecomputedWindowOf.{HasWindowRoom, window_of}
 use Rattle.ht_recompute.specs.Written.{IsWritten}
 use Rattle.ht_recompute.specs.WrittenClauses.{IsKnownClause, breach_in, breaks_in, may_miss_in, meets_in, must_miss_in, under_in, value_in}
 use Rattle.ht_recompute.proofs.BegunLaws.{written_over}

@@ -7,16 +7,16 @@ use Rattle.ht_tern.specs.declared.tern.Tern.{Tern}
 use Rattle.ht_tern.specs.declared.tern.Tern.TheVariants.{Unk}
 use Rattle.ht_tern.specs.Gate.{AllRelated}
 use Rattle.ht_pairs.specs.Pairs.{Pair, pair, is_member}
-use Rattle.ht_net.specs.Frame.{data_values}
-use Rattle.ht_net.specs.Netlist.{no_net}
+use Rattle.ht_net.specs.Frames.Frame.{data_values}
+use Rattle.ht_net.specs.Circuit.Netlist.{no_net}
 use Rattle.ht_net.proofs.ValueLaws.{taken_get}
 use Rattle.ht_tree.specs.declared.token.Assign3.{Assign3}
 use Rattle.ht_tree.specs.declared.token.Status3.TheVariants as status3
 use Rattle.ht_tree.specs.declared.window.Spot.TheVariants.{State, Cube}
 use Rattle.ht_tree.specs.declared.window.Status.TheVariants.{Dead, Sure, Open}
-use Rattle.ht_tree.specs.Windows.{SearchWindow, pair_set_rules, cell_at, is_undetermined}
-use Rattle.ht_tree.specs.Places.{set_at}
-use Rattle.ht_tree.specs.WindowStatus.{is_definite, value_at, cube_latches, may_meet, must_meet, cube_status, without_place}
+use Rattle.ht_tree.specs.Window.Windows.{SearchWindow, pair_set_rules, cell_at, is_undetermined}
+use Rattle.ht_tree.specs.Window.Places.{set_at}
+use Rattle.ht_tree.specs.Window.WindowStatus.{is_definite, value_at, cube_latches, may_meet, must_meet, cube_status, without_place}
 use Rattle.ht_recompute.specs.WantedLatches.{WantedLatch, wanted_in, matches_in, may_be, must_be, status_by_matches}
 
 -- a latch by number, and what is wanted of it

@@ -5,7 +5,7 @@ use Rattle.std.proofs.lemmas.List.{length-set}
 use Rattle.ht_tern.specs.declared.tern.Tern.{Tern}
 use Rattle.ht_tern.specs.declared.tern.Tern.TheVariants.{Zero}
 use Rattle.ht_tree.specs.declared.token.Assign3.{Assign3}
-use Rattle.ht_tree.specs.Decisions.{decided_value}
+use Rattle.ht_tree.specs.Window.Decisions.{decided_value}
 use Rattle.ht_tree.proofs.WrittenLaws.{decided_more, written_more}
 use Rattle.ht_recompute.specs.Written.{IsWritten}
 

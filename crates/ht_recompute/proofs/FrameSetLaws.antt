@@ -3,10 +3,10 @@ use Rattle.std.proofs.Common.{◌≡◌, ◌<◌, ◌+◌, ◌*◌, ℕ, suc, Li
 use Rattle.ht_tern.specs.declared.tern.Tern.{Tern}
 use Rattle.ht_pairs.specs.Pairs.{Pair}
 use Rattle.ht_net.specs.declared.fault.Fault.{Fault}
-use Rattle.ht_net.specs.Netlist.{Netlist, IsCircuit, net_count, no_net}
-use Rattle.ht_net.specs.Frame.{net_value, values_at, data_values, frame_outputs, next_state}
+use Rattle.ht_net.specs.Circuit.Netlist.{Netlist, IsCircuit, net_count, no_net}
+use Rattle.ht_net.specs.Frames.Frame.{net_value, values_at, data_values, frame_outputs, next_state}
 use Rattle.ht_net.proofs.ValueLaws.{seen_same, taken_same}
-use Rattle.ht_tree.specs.Windows.{pair_set_rules}
+use Rattle.ht_tree.specs.Window.Windows.{pair_set_rules}
 use Rattle.ht_recompute.specs.GateSets.{sets_of}
 use Rattle.ht_recompute.specs.FrameSetsOf.{FrameState, frame_after, inputs_by, latches_after, outputs_of_frame}
 

@@ -1,7 +1,7 @@
 pub mod DecisionLaws
 pub mod DifferenceLaws
 pub mod FrameSetLaws
-pub mod FreshLaws
+pub mod RecomputedLaws
 pub mod PlaceLaws
 pub mod WantedLaws
 pub mod StatusLaws

@@ -10,9 +10,9 @@ use Rattle.ht_pairs.specs.Pairs.{Pair, pair, lifted_set, stuck_set}
 use Rattle.ht_net.specs.declared.fault.Site.{Site}
 use Rattle.ht_net.specs.declared.fault.Site.TheVariants.{Stem, DffPin, GatePin}
 use Rattle.ht_net.specs.declared.fault.Fault.{Fault}
-use Rattle.ht_net.specs.Netlist.{Netlist, first_gate_net, net_count, gate_at, arg_at, IsCircuit}
-use Rattle.ht_net.specs.Faults.{forced, is_stem}
-use Rattle.ht_net.specs.Frame.{gate_output, net_value, net_value_over, values_at}
+use Rattle.ht_net.specs.Circuit.Netlist.{Netlist, first_gate_net, net_count, gate_at, arg_at, IsCircuit}
+use Rattle.ht_net.specs.Frames.Faults.{forced, is_stem}
+use Rattle.ht_net.specs.Frames.Frame.{gate_output, net_value, net_value_over, values_at}
 use Rattle.ht_net.proofs.FrameLaws.{IsSettled, le_or_lt, settled_is_frame, driven_input, driven_latch, driven_gate, gate_same}
 use Rattle.ht_net.proofs.DepthLaws.{circuit_depth}
 use Rattle.ht_frame.specs.StuckPins.{is_at_gate, is_pin_of}
@@ -21,7 +21,7 @@ use Rattle.ht_events.specs.Schedules.{IsSchedule}
 use Rattle.ht_events.specs.declared.schedule.Schedule.{Schedule}
 use Rattle.ht_events.proofs.ReaderLaws.{reads_pin}
 use Rattle.ht_events.proofs.ScheduleLaws.{no_self}
-use Rattle.ht_tree.specs.Windows.{pair_set_rules}
+use Rattle.ht_tree.specs.Window.Windows.{pair_set_rules}
 use Rattle.ht_recompute.specs.GateSets.{AreGatesSettled, AreQuietSettled, IsGateSettled, gate_rank, is_gate_line, is_stuck_gate, sets_of}
 
 -- A mark that more marks leave off was off.

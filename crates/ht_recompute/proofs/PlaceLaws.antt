@@ -6,18 +6,18 @@ use Rattle.std.proofs.lemmas.Simd.{map-map}
 use Rattle.std.specs.Prelude.{flat_map}
 use Rattle.ht_pairs.specs.Pairs.{Pair, differs}
 use Rattle.ht_net.specs.declared.net.NetId.{NetId}
-use Rattle.ht_net.specs.Netlist.{no_net}
-use Rattle.ht_net.specs.Frame.{Rules, values_at, data_values}
+use Rattle.ht_net.specs.Circuit.Netlist.{no_net}
+use Rattle.ht_net.specs.Frames.Frame.{Rules, values_at, data_values}
 use Rattle.ht_tree.specs.declared.token.Assign3.{Assign3}
 use Rattle.ht_tree.specs.declared.window.Spot.TheVariants.{Output, State}
 use Rattle.ht_tree.specs.declared.window.WindowPlace.{WindowPlace}
-use Rattle.ht_tree.specs.Decisions.{is_in}
-use Rattle.ht_tree.specs.Windows.{Start, one_frame, SearchWindow, pair_set_rules, cell_at}
-use Rattle.ht_tree.specs.Places.{set_at, output_places, state_places, places_of, must_differ_at, may_differ_at}
-use Rattle.ht_tree.specs.WindowStatus.{sure_or, difference_status, without_place}
-use Rattle.ht_recompute.specs.declared.fresh_start.FreshStart.{FreshStart}
-use Rattle.ht_recompute.specs.declared.fresh_start.FreshStart.TheVariants.{OneFrame, Unknown, States, Back}
-use Rattle.ht_recompute.specs.FreshStarts.{IsStartOf, fresh_start, state_sets}
+use Rattle.ht_tree.specs.Window.Decisions.{is_in}
+use Rattle.ht_tree.specs.Window.Windows.{Start, one_frame, SearchWindow, pair_set_rules, cell_at}
+use Rattle.ht_tree.specs.Window.Places.{set_at, output_places, state_places, places_of, must_differ_at, may_differ_at}
+use Rattle.ht_tree.specs.Window.WindowStatus.{sure_or, difference_status, without_place}
+use Rattle.ht_recompute.specs.declared.window_start.WindowStart.{WindowStart}
+use Rattle.ht_recompute.specs.declared.window_start.WindowStart.TheVariants.{OneFrame, Unknown, States, Back}
+use Rattle.ht_recompute.specs.WindowStarts.{IsStartOf, window_start, state_sets}
 use Rattle.ht_recompute.specs.Differences.{differences_in, status_by, outside_marks}
 
 first_sure : (b : Bool) (p : WindowPlace) (more : Option WindowPlace) (rest some : Bool)
@@ -117,8 +117,8 @@ module _ (w : SearchWindow) (path : List Assign3) where
       ∙ ap (λ (n : ℕ). r.data_pin n (cell_at w path 0 (get_or w.circuit.dffs k no_net).0)) (sym at))
 
   -- the sets of the next states that are places
-  state_sets_are : (start : FreshStart) → IsStartOf start (length w.circuit.dffs)
-      → map set_of_place (state_places w.circuit (fresh_start start))
+  state_sets_are : (start : WindowStart) → IsStartOf start (length w.circuit.dffs)
+      → map set_of_place (state_places w.circuit (window_start start))
       ≡ state_sets start (data_values (pair_set_rules w.fault) (cell_at w path 0) 0 w.circuit.dffs)
   state_sets_are (OneFrame z marks) h = marked_sets z.now marks.items h.0 h.1
   state_sets_are Unknown h = refl
@@ -126,7 +126,7 @@ module _ (w : SearchWindow) (path : List Assign3) where
   state_sets_are (Back cube limit) h = refl
 
   -- the status by what the outputs of the frames show, and the next states
-  pub status_shown : (start : FreshStart) → w.start ≡ fresh_start start → IsStartOf start (length w.circuit.dffs)
+  pub status_shown : (start : WindowStart) → w.start ≡ window_start start → IsStartOf start (length w.circuit.dffs)
       → status_by (differences_in (flat_map shown_in (range_with_len 0 w.frames)
       ++ state_sets start (data_values (pair_set_rules w.fault) (cell_at w path 0) 0 w.circuit.dffs)))
       ≡ without_place (difference_status w path)

@@ -4,25 +4,25 @@ use Rattle.std.specs.Prelude.{flat_map}
 use Rattle.std.specs.List.{range_with_len}
 use Rattle.ht_tern.specs.declared.tern.Tern.{Tern}
 use Rattle.ht_pairs.specs.Pairs.{Pair}
-use Rattle.ht_net.specs.Frame.{data_values, values_at}
+use Rattle.ht_net.specs.Frames.Frame.{data_values, values_at}
 use Rattle.ht_net.proofs.ValueLaws.{seen_get, taken_get}
 use Rattle.ht_tree.specs.declared.token.Assign3.{Assign3}
 use Rattle.ht_tree.specs.declared.window.Spot.{Spot}
 use Rattle.ht_tree.specs.declared.window.Spot.TheVariants.{Output, State, Cube}
-use Rattle.ht_tree.specs.Counts.{seeks_difference}
-use Rattle.ht_tree.specs.Places.{IsSpot, set_at, spot_net}
-use Rattle.ht_tree.specs.Windows.{Start, one_frame, unknown, state_pair, back, SearchWindow, IsStart, pair_set_rules, first_latches, latches_at, cell_at}
-use Rattle.ht_tree.specs.WindowStatus.{status_from, status_at, difference_status, without_place}
+use Rattle.ht_tree.specs.Walk.Counts.{seeks_difference}
+use Rattle.ht_tree.specs.Window.Places.{IsSpot, set_at, spot_net}
+use Rattle.ht_tree.specs.Window.Windows.{Start, one_frame, unknown, state_pair, back, SearchWindow, IsStart, pair_set_rules, first_latches, latches_at, cell_at}
+use Rattle.ht_tree.specs.Window.WindowStatus.{status_from, status_at, difference_status, without_place}
 use Rattle.ht_tree.proofs.BeginLaws.{some_frame}
 use Rattle.ht_recompute.specs.declared.differences.Differences.{Differences}
-use Rattle.ht_recompute.specs.declared.fresh_start.FreshStart.{FreshStart}
-use Rattle.ht_recompute.specs.declared.fresh_start.FreshStart.TheVariants.{OneFrame, Unknown, States, Back}
+use Rattle.ht_recompute.specs.declared.window_start.WindowStart.{WindowStart}
+use Rattle.ht_recompute.specs.declared.window_start.WindowStart.TheVariants.{OneFrame, Unknown, States, Back}
 use Rattle.ht_recompute.specs.Written.{IsWritten}
 use Rattle.ht_recompute.specs.Differences.{differences_in, in_either, status_by}
-use Rattle.ht_recompute.specs.FreshStarts.{IsStartOf, fresh_start, first_latch_by, latches_by, state_sets}
+use Rattle.ht_recompute.specs.WindowStarts.{IsStartOf, window_start, first_latch_by, latches_by, state_sets}
 use Rattle.ht_recompute.specs.FrameSetsOf.{FrameState, frame_after, inputs_by, latches_after, outputs_of_frame, set_in}
 use Rattle.ht_recompute.proofs.DifferenceLaws.{differences_append}
-use Rattle.ht_recompute.proofs.FreshLaws.{map_same, first_are, latches_are, outputs_are, outputs_flat, next_latches}
+use Rattle.ht_recompute.proofs.RecomputedLaws.{map_same, first_are, latches_are, outputs_are, outputs_flat, next_latches}
 use Rattle.ht_recompute.proofs.FrameSetLaws.{ran_frame}
 use Rattle.ht_recompute.proofs.PlaceLaws.{shown_in, status_shown}
 
@@ -34,14 +34,14 @@ seeking w path (state_pair good faulty) h = refl
 seeking w path (back cube limit) h = cc
 
 -- A window whose decisions are written, and a frame with its first latches.
-module _ (w : SearchWindow) (path : List Assign3) (decisions : List (Option Tern)) (start : FreshStart)
-    (fits : IsStart w.circuit w.fault w.frames (fresh_start start)) (begins : w.start ≡ fresh_start start)
+module _ (w : SearchWindow) (path : List Assign3) (decisions : List (Option Tern)) (start : WindowStart)
+    (fits : IsStart w.circuit w.fault w.frames (window_start start)) (begins : w.start ≡ window_start start)
     (is : IsStartOf start (length w.circuit.dffs)) (written : IsWritten decisions path)
     (room : w.frames * w.circuit.inputs + 2 * length w.circuit.dffs ≤ length decisions) (s : FrameState)
     (circuit : s.circuit ≡ w.circuit) (fault : s.fault ≡ w.fault)
     (latches : s.latches ≡ latches_by start decisions w.circuit) where
   some : 0 < w.frames
-  some = some_frame w.circuit w.fault w.frames (fresh_start start) fits
+  some = some_frame w.circuit w.fault w.frames (window_start start) fits
 
   first : s.latches ≡ first_latches w path
   first = latches ∙
@@ -61,7 +61,7 @@ module _ (w : SearchWindow) (path : List Assign3) (decisions : List (Option Tern
       ≡ state_sets start (data_values (pair_set_rules w.fault) (cell_at w path 0) 0 w.circuit.dffs)
   states_are next e = by start fits
     where
-      by : (t : FreshStart) → IsStart w.circuit w.fault w.frames (fresh_start t) → state_sets t next
+      by : (t : WindowStart) → IsStart w.circuit w.fault w.frames (window_start t) → state_sets t next
           ≡ state_sets t (data_values (pair_set_rules w.fault) (cell_at w path 0) 0 w.circuit.dffs)
       by (OneFrame z marks) one = ap (state_sets (OneFrame z marks)) (e ∙ next_are one)
       by Unknown h = refl
@@ -109,8 +109,8 @@ module _ (w : SearchWindow) (path : List Assign3) (decisions : List (Option Tern
       by outputs latches Cube l = refl
 
 -- after the frame of a window that looks for a cube the latches are its next states
-pub cube_next : (w : SearchWindow) (path : List Assign3) (decisions : List (Option Tern)) (start : FreshStart)
-    (cube given : List Tern) (left limit : ℕ) → w.start ≡ back cube left → fresh_start start ≡ back given limit
+pub cube_next : (w : SearchWindow) (path : List Assign3) (decisions : List (Option Tern)) (start : WindowStart)
+    (cube given : List Tern) (left limit : ℕ) → w.start ≡ back cube left → window_start start ≡ back given limit
     → w.frames ≡ 1 → IsWritten decisions path
     → w.frames * w.circuit.inputs + 2 * length w.circuit.dffs ≤ length decisions → (s new : FrameState)
     → s.circuit ≡ w.circuit → s.fault ≡ w.fault → s.latches ≡ latches_by start decisions w.circuit

@@ -7,8 +7,8 @@ use Rattle.std.proofs.lemmas.List.Folds.{list_any-append, list_all-append}
 use Rattle.ht_tern.specs.declared.tern.Tern.{Tern}
 use Rattle.ht_pairs.specs.Pairs.{Pair, pair, IsMember, is_member}
 use Rattle.ht_pairs.proofs.SetLaws.{agree, is_member-true, is_member-from}
-use Rattle.ht_tree.specs.Windows.{is_undetermined}
-use Rattle.ht_tree.specs.WindowStatus.{is_definite}
+use Rattle.ht_tree.specs.Window.Windows.{is_undetermined}
+use Rattle.ht_tree.specs.Window.WindowStatus.{is_definite}
 use Rattle.ht_recompute.specs.declared.cube.Matches.{Matches}
 use Rattle.ht_recompute.specs.WantedLatches.{WantedLatch, wanted_in, matches_in, in_both, is_any, may_be, must_be}
 

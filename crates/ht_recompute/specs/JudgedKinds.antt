@@ -1,10 +1,10 @@
 -- What the walks of a window are judged by.
 use Rattle.std.specs.Prelude.{ℕ}
-use Rattle.ht_net.specs.Netlist.{Netlist}
-use Rattle.ht_tree.specs.Walks.{Judge}
-use Rattle.ht_tree.specs.Windows.{SearchWindow, token_weight}
-use Rattle.ht_tree.specs.Nodes.{judge_of}
-use Rattle.ht_tree.specs.ClauseWindows.{ClauseWindow, judge_under}
+use Rattle.ht_net.specs.Circuit.Netlist.{Netlist}
+use Rattle.ht_tree.specs.Walk.Walks.{Judge}
+use Rattle.ht_tree.specs.Window.Windows.{SearchWindow, token_weight}
+use Rattle.ht_tree.specs.Window.Nodes.{judge_of}
+use Rattle.ht_tree.specs.Clause.ClauseWindows.{ClauseWindow, judge_under}
 
 -- What judges the nodes of a window's walks, what a token of them weighs, and the circuit of the window's frames.
 pub record JudgedKind : Type 0 where

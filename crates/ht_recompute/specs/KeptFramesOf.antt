@@ -1,7 +1,7 @@
 -- How the fields of kept frames stand for them.
 use Rattle.std.specs.Prelude.{ℕ, length}
 use Rattle.std.specs.List.{All}
-use Rattle.ht_net.specs.Netlist.{Netlist}
+use Rattle.ht_net.specs.Circuit.Netlist.{Netlist}
 use Rattle.ht_events.specs.Schedules.{IsSchedule}
 use Rattle.ht_recompute.specs.NetSetsOf.{AreNetSets}
 use Rattle.ht_recompute.specs.declared.kept_frames.KeptFrames.TheInside.{Inside}

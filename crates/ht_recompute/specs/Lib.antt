@@ -1,12 +1,12 @@
 pub mod JudgedKinds
 pub mod Written
 pub mod Differences
-pub mod FreshStarts
+pub mod WindowStarts
 pub mod FrameSetsOf
 pub mod WantedLatches
-pub mod FreshWindowOf
+pub mod RecomputedWindowOf
 pub mod GateSets
 pub mod NetSetsOf
 pub mod KeptFramesOf
 pub mod WrittenClauses
-pub mod FreshClauseWindowOf
+pub mod RecomputedClauseWindowOf

@@ -1,6 +1,6 @@
 -- How the fields of sets of nets stand for what they keep from one frame to the next.
 use Rattle.std.specs.Prelude.{◌≡◌, length}
-use Rattle.ht_net.specs.Netlist.{Netlist, max_arguments}
+use Rattle.ht_net.specs.Circuit.Netlist.{Netlist, max_arguments}
 use Rattle.ht_events.specs.declared.schedule.Schedule.{Schedule}
 use Rattle.ht_recompute.specs.GateSets.{AreQuietSettled}
 use Rattle.ht_recompute.specs.declared.net_sets.NetSets.{NetSets}

@@ -3,8 +3,8 @@ use Rattle.std.specs.Prelude.{ℕ, List, [], ◌∷◌, Bool, true, not, ◌&&�
 use Rattle.std.specs.List.{list_any, list_all}
 use Rattle.ht_tern.specs.declared.tern.Tern.{Tern}
 use Rattle.ht_pairs.specs.Pairs.{Pair, pair, is_member}
-use Rattle.ht_tree.specs.Windows.{is_undetermined}
-use Rattle.ht_tree.specs.WindowStatus.{is_definite}
+use Rattle.ht_tree.specs.Window.Windows.{is_undetermined}
+use Rattle.ht_tree.specs.Window.WindowStatus.{is_definite}
 use Rattle.ht_tree.specs.declared.token.Status3.{Status3}
 use Rattle.ht_tree.specs.declared.token.Status3.TheVariants.{Dead, Sure, Open}
 use Rattle.ht_recompute.specs.declared.cube.Matches.{Matches}

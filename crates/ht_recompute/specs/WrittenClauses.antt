@@ -1,17 +1,17 @@
 -- What decisions, and sets of next states, make of clauses.
 use Rattle.std.specs.Prelude.{◌+◌, ◌&&◌, ℕ, List, [], Bool, not, if◌then◌else◌, get_or, Option, None}
 use Rattle.std.specs.List.{list_any, list_all}
-use Rattle.ht_net.specs.Netlist.{Netlist}
+use Rattle.ht_net.specs.Circuit.Netlist.{Netlist}
 use Rattle.ht_tern.specs.declared.tern.Tern.{Tern}
 use Rattle.ht_tern.specs.Gate.{tern_of}
 use Rattle.ht_pairs.specs.Pairs.{Pair, pair, is_member}
 use Rattle.ht_tree.specs.declared.token.Status3.{Status3}
 use Rattle.ht_tree.specs.declared.token.Status3.TheVariants.{Dead, Sure, Open}
-use Rattle.ht_tree.specs.Windows.{is_undetermined}
+use Rattle.ht_tree.specs.Window.Windows.{is_undetermined}
 use Rattle.ht_tree.specs.declared.clause.Clause.{Clause}
 use Rattle.ht_tree.specs.declared.clause.Literal.{Literal}
-use Rattle.ht_tree.specs.Clauses.{AreKnown, is_decided_against, is_decided_to, literals_of}
-use Rattle.ht_tree.specs.ClauseWindows.{open_if_sure}
+use Rattle.ht_tree.specs.Clause.Clauses.{AreKnown, is_decided_against, is_decided_to, literals_of}
+use Rattle.ht_tree.specs.Clause.ClauseWindows.{open_if_sure}
 
 -- the flip-flops of a clause are the circuit's
 abbrev pub IsKnownClause : Netlist → Clause → Type 0

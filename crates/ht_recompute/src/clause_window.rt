@@ -1,14 +1,14 @@
 //! Windows under clauses, whose frame settles at each node.
 ghost use Rattle.std.specs.Prelude.{◌≡◌, ◌<◌, ℕ, length, get_or, IfOk};
 ghost use Rattle.std.specs.List.{All};
-ghost use Rattle.ht_tree.specs.Clauses.{literals_of, literals_of_each};
-ghost use Rattle.ht_tree.specs.ClauseWindows.{closing_window, sought_status, under_clauses, window_under};
+ghost use Rattle.ht_tree.specs.Clause.Clauses.{literals_of, literals_of_each};
+ghost use Rattle.ht_tree.specs.Clause.ClauseWindows.{closing_window, sought_status, under_clauses, window_under};
 ghost use Rattle.ht_recompute.specs.JudgedKinds.{judged_kind_under};
 ghost use Rattle.ht_recompute.specs.WrittenClauses.{IsKnownClause};
 
-use crate::fresh_window::FreshWindow;
 use crate::judged_window::JudgedWindow;
 use crate::kept_frames::KeptFrames;
+use crate::recomputed_window::RecomputedWindow;
 use ht_net::Fault;
 use ht_tree::{Assign3, Clause, Status3, WalkNode};
 use std::alloc::{AllocError, Global};
@@ -25,25 +25,25 @@ pub enum Goal<'s> {
 
 /// A window of one frame under clauses.
 #[derive(Drop)]
-pub struct FreshClauseWindow<'c, 's> {
-    window: FreshWindow<'c, 's>,
+pub struct RecomputedClauseWindow<'c, 's> {
+    window: RecomputedWindow<'c, 's>,
     goal: Goal<'s>,
     clauses: &'s [Clause],
 }
 
-impl<'c, 's> Model for FreshClauseWindow<'c, 's> {
-    ghost use Rattle.ht_tree.specs.ClauseWindows.{ClauseWindow};
+impl<'c, 's> Model for RecomputedClauseWindow<'c, 's> {
+    ghost use Rattle.ht_tree.specs.Clause.ClauseWindows.{ClauseWindow};
 
     ghost Value = { ClauseWindow };
 
-    ghost use Rattle.ht_recompute.specs.FreshClauseWindowOf.{clause_window_of, IsOneFrameUnder};
+    ghost use Rattle.ht_recompute.specs.RecomputedClauseWindowOf.{clause_window_of, IsOneFrameUnder};
 
     ghost view = { clause_window_of };
 
     ghost invariant = { IsOneFrameUnder };
 }
 
-impl<'c, 's> FreshClauseWindow<'c, 's> {
+impl<'c, 's> RecomputedClauseWindow<'c, 's> {
     /// The one-frame window of a fault and a set of flip-flops, under clauses.
     ///
     /// # Errors
@@ -54,14 +54,14 @@ impl<'c, 's> FreshClauseWindow<'c, 's> {
         fault: Fault,
         z: &'s [u32],
         clauses: &'s [Clause],
-    ) -> Result<FreshClauseWindow<'c, 's>, AllocError>
+    ) -> Result<RecomputedClauseWindow<'c, 's>, AllocError>
         requires z { (i : ℕ) → i < length z.now → get_or z.now i 0 < length kept.circuit.dffs }
         requires clauses { All (IsKnownClause kept.circuit) clauses.now }
         ensures { IfOk result (λ window. window
             ≡ window_under kept.entry.circuit fault z.now (literals_of_each clauses.now)) }
     {
-        let window = FreshWindow::one_frame(alloc, kept, fault, z)?;
-        Ok(FreshClauseWindow {
+        let window = RecomputedWindow::one_frame(alloc, kept, fault, z)?;
+        Ok(RecomputedClauseWindow {
             window,
             goal: Goal::Difference,
             clauses,
@@ -77,15 +77,15 @@ impl<'c, 's> FreshClauseWindow<'c, 's> {
         kept: KeptFrames<'c>,
         clause: &'s Clause,
         clauses: &'s [Clause],
-    ) -> Result<FreshClauseWindow<'c, 's>, AllocError>
+    ) -> Result<RecomputedClauseWindow<'c, 's>, AllocError>
         requires clause { IsKnownClause kept.circuit clause.now }
         requires clauses { All (IsKnownClause kept.circuit) clauses.now }
         ensures { IfOk result (λ window. window
             ≡ closing_window kept.entry.circuit (literals_of_each clauses.now)
             (literals_of clause.now)) }
     {
-        let window = FreshWindow::good(alloc, kept, &[])?;
-        Ok(FreshClauseWindow {
+        let window = RecomputedWindow::good(alloc, kept, &[])?;
+        Ok(RecomputedClauseWindow {
             window,
             goal: Goal::Breach(clause),
             clauses,
@@ -93,7 +93,7 @@ impl<'c, 's> FreshClauseWindow<'c, 's> {
     }
 }
 
-impl<'c, 's> FreshClauseWindow<'c, 's> {
+impl<'c, 's> RecomputedClauseWindow<'c, 's> {
     // The status of what is looked for, whatever the clauses, at a path.
     fn sought(&mut self, path: &[Assign3]) -> Status3
         ensures status { result ≡ sought_status self.old.window path.now self.old.sought }
@@ -115,7 +115,7 @@ impl<'c, 's> FreshClauseWindow<'c, 's> {
     }
 }
 
-impl<'c, 's> JudgedWindow<'c> for FreshClauseWindow<'c, 's> {
+impl<'c, 's> JudgedWindow<'c> for RecomputedClauseWindow<'c, 's> {
     ghost kind = { λ w. judged_kind_under w };
 
     fn token_weight(&self) -> u32 {

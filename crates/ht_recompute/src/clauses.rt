@@ -1,8 +1,8 @@
 //! Clauses, and what decisions and next states make of them.
 ghost use Rattle.std.specs.Prelude.{◌≡◌, ◌<◌, Option, Some, length};
 ghost use Rattle.std.specs.List.{list_any, list_all};
-ghost use Rattle.ht_tree.specs.Clauses.{is_decided_against, is_decided_to, literals_of};
-ghost use Rattle.ht_tree.specs.ClauseWindows.{open_if_sure};
+ghost use Rattle.ht_tree.specs.Clause.Clauses.{is_decided_against, is_decided_to, literals_of};
+ghost use Rattle.ht_tree.specs.Clause.ClauseWindows.{open_if_sure};
 ghost use Rattle.ht_recompute.specs.WrittenClauses.{breach_in, breaks_in, meets_in, under_in, value_in};
 
 use crate::cube::Matches;

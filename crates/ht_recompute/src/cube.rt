@@ -2,9 +2,9 @@
 ghost use Rattle.std.specs.Prelude.{◌≡◌, ◌<◌, ◌≤◌, ◌+◌, ◌∷◌, ℕ, [], None, length, get_or};
 ghost use Rattle.std.specs.List.{list_any};
 ghost use Rattle.ht_tern.specs.declared.tern.Tern.TheVariants.{Unk};
-ghost use Rattle.ht_tree.specs.Nodes.{cube_at, cube_of, or_unknown};
-ghost use Rattle.ht_tree.specs.Walks.{path_of};
-ghost use Rattle.ht_tree.specs.WindowStatus.{is_definite};
+ghost use Rattle.ht_tree.specs.Window.Nodes.{cube_at, cube_of, or_unknown};
+ghost use Rattle.ht_tree.specs.Walk.Walks.{path_of};
+ghost use Rattle.ht_tree.specs.Window.WindowStatus.{is_definite};
 ghost use Rattle.ht_recompute.specs.Written.{IsWritten};
 ghost use Rattle.ht_recompute.specs.WantedLatches.{status_by_matches, in_both, matches_in, wanted_in};
 

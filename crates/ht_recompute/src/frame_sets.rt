@@ -3,16 +3,16 @@ ghost use Rattle.std.specs.Prelude.{◌≡◌, ◌≤◌, ◌+◌, ◌*◌, Opti
 ghost use Rattle.std.specs.List.{list_all, range_with_len};
 ghost use Rattle.ht_pairs.specs.Pairs.{differs};
 ghost use Rattle.ht_net.specs.declared.fault.Fault.{Fault};
-ghost use Rattle.ht_net.specs.Netlist.{IsCircuit};
-ghost use Rattle.ht_tree.specs.Places.{IsSpot};
-ghost use Rattle.ht_recompute.specs.FreshStarts.{IsStartOf, latches_by};
+ghost use Rattle.ht_net.specs.Circuit.Netlist.{IsCircuit};
+ghost use Rattle.ht_tree.specs.Window.Places.{IsSpot};
+ghost use Rattle.ht_recompute.specs.WindowStarts.{IsStartOf, latches_by};
 ghost use Rattle.ht_recompute.specs.FrameSetsOf.{AreEndsOf, frame_after, inputs_by, latches_after, outputs_of_frame, set_in};
 ghost use Rattle.ht_recompute.specs.Differences.{differences_in};
 
 use crate::decisions::write_inputs;
 use crate::differences::{Differences, output_differences};
-use crate::fresh_start::{FreshStart, write_latches};
 use crate::kept_frames::KeptFrames;
+use crate::window_start::{WindowStart, write_latches};
 use ht_net::{Circuit, Fault};
 use ht_pairs::PairSet;
 use ht_tern::Tern;
@@ -105,7 +105,7 @@ impl<'c> FrameSets<'c> {
     }
 
     /// Gives the latches the sets of a start under what was decided.
-    pub fn begin(&mut self, start: &FreshStart, decisions: &[Option<Tern>])
+    pub fn begin(&mut self, start: &WindowStart, decisions: &[Option<Tern>])
         requires start { IsStartOf start.now (length self.old.circuit.dffs) }
         requires room { self.old.circuit.inputs + 2 * length self.old.circuit.dffs
             ≤ length decisions.now }

@@ -1,11 +1,11 @@
 //! The frames of windows, kept from one window to the next.
 ghost use Rattle.std.specs.Prelude.{◌≡◌, ◌<◌, ◌≤◌, length, IfOk, OnOk};
 ghost use Rattle.std.specs.List.{All};
-ghost use Rattle.ht_net.specs.Netlist.{IsCircuit};
-ghost use Rattle.ht_net.specs.Frame.{frame_outputs, next_state};
+ghost use Rattle.ht_net.specs.Circuit.Netlist.{IsCircuit};
+ghost use Rattle.ht_net.specs.Frames.Frame.{frame_outputs, next_state};
 ghost use Rattle.ht_events.specs.declared.schedule.Schedule.{Schedule};
 ghost use Rattle.ht_events.specs.Schedules.{IsSchedule};
-ghost use Rattle.ht_tree.specs.Windows.{pair_set_rules};
+ghost use Rattle.ht_tree.specs.Window.Windows.{pair_set_rules};
 ghost use Rattle.ht_recompute.specs.NetSetsOf.{AreNetSets};
 
 use crate::net_sets::{NetSets, Settling};

@@ -2,11 +2,11 @@
 ghost use Rattle.std.specs.Prelude.{◌≡◌, ◌≢◌, ◌<◌, ◌≤◌, ◌+◌, ◌-◌, ℕ, List, Some, true, false, length, get_or, All, IfOk};
 ghost use Rattle.std.specs.List.{Contains};
 ghost use Rattle.ht_pairs.specs.Pairs.{Pair};
-ghost use Rattle.ht_net.specs.Netlist.{first_gate_net, net_count};
-ghost use Rattle.ht_net.specs.Frame.{frame_outputs, net_value, next_state, values_at};
+ghost use Rattle.ht_net.specs.Circuit.Netlist.{first_gate_net, net_count};
+ghost use Rattle.ht_net.specs.Frames.Frame.{frame_outputs, net_value, next_state, values_at};
 ghost use Rattle.ht_events.specs.declared.schedule.Schedule.{Schedule};
 ghost use Rattle.ht_events.specs.Schedules.{IsSchedule};
-ghost use Rattle.ht_tree.specs.Windows.{pair_set_rules};
+ghost use Rattle.ht_tree.specs.Window.Windows.{pair_set_rules};
 ghost use Rattle.ht_recompute.specs.GateSets.{AreGatesSettled, AreQuietSettled, gate_rank, is_gate_line, is_stuck_gate, sets_of};
 ghost use Rattle.ht_recompute.specs.NetSetsOf.{AreNetSets};
 

@@ -4,27 +4,27 @@ use Rattle.std.specs.Prelude.{is_some, leb, ltb}
 use Rattle.std.specs.List.{find, list_any, list_all}
 use Rattle.std.proofs.lemmas.Bool.{and_cases, and_from, and_parts, le-leb, lt-ltb, ltb-true, not-true, or_left, or_parts, or_right}
 use Rattle.ht_tern.specs.declared.tern.Tern.{Tern}
-use Rattle.ht_net.specs.Netlist.{Netlist, first_gate_net}
+use Rattle.ht_net.specs.Circuit.Netlist.{Netlist, first_gate_net}
 use Rattle.ht_tree.specs.declared.token.Assign3.{Assign3}
 use Rattle.ht_tree.specs.declared.token.Choice.{Choice}
 use Rattle.ht_tree.specs.declared.token.Status3.{Status3}
 use Rattle.ht_tree.specs.declared.token.Status3.TheVariants as status3
 use Rattle.ht_tree.specs.declared.window.Status.TheVariants.{Sure, Open}
 use Rattle.ht_tree.specs.declared.window.Spot.TheVariants.{State}
-use Rattle.ht_tree.specs.Walks.{decides}
-use Rattle.ht_tree.specs.Windows.{Start, one_frame, unknown, state_pair, back, SearchWindow, first_input, is_undetermined}
-use Rattle.ht_tree.specs.Places.{set_at, spot_net}
-use Rattle.ht_tree.specs.WindowStatus.{status_at}
-use Rattle.ht_tree.specs.Variables.{DecidesAll, IsLegalChoice, is_latch, may_two, two_of_start}
-use Rattle.ht_tree.specs.WalkBack.{pick_of, walk_back}
+use Rattle.ht_tree.specs.Walk.Walks.{decides}
+use Rattle.ht_tree.specs.Window.Windows.{Start, one_frame, unknown, state_pair, back, SearchWindow, first_input, is_undetermined}
+use Rattle.ht_tree.specs.Window.Places.{set_at, spot_net}
+use Rattle.ht_tree.specs.Window.WindowStatus.{status_at}
+use Rattle.ht_tree.specs.Window.Variables.{DecidesAll, IsLegalChoice, is_latch, may_two, two_of_start}
+use Rattle.ht_tree.specs.Window.WalkBack.{pick_of, walk_back}
 use Rattle.ht_tree.proofs.BeginLaws.{some_frame, spot_undetermined, undetermined_meets, open_alone}
 use Rattle.ht_tree.proofs.DecidedLaws.{decides_value}
 use Rattle.ht_tree.proofs.FirstLaws.{FoundFirst, FoundPassing, find_first, find_passing}
 use Rattle.ht_tree.proofs.PickLaws.{net_has_choice, open_has_choice, none_legal}
 use Rattle.ht_tree.specs.declared.clause.Literal.{Literal}
-use Rattle.ht_tree.specs.Clauses.{AreKnown, is_decided_against, is_decided_to, latch_value, path_breaks, path_meets}
-use Rattle.ht_tree.specs.ClauseWindows.{ClauseWindow, IsClauseWindow, IsSought, Sought, breach, difference, is_one_frame, may_miss, must_miss, sought_status, status_under}
-use Rattle.ht_tree.specs.ClauseSearches.{back_from, choice_if_open, choice_or, pick_under, sought_choice, to_clause, to_literal}
+use Rattle.ht_tree.specs.Clause.Clauses.{AreKnown, is_decided_against, is_decided_to, latch_value, path_breaks, path_meets}
+use Rattle.ht_tree.specs.Clause.ClauseWindows.{ClauseWindow, IsClauseWindow, IsSought, Sought, breach, difference, is_one_frame, may_miss, must_miss, sought_status, status_under}
+use Rattle.ht_tree.specs.Clause.ClauseSearches.{back_from, choice_if_open, choice_or, pick_under, sought_choice, to_clause, to_literal}
 use Rattle.ht_records.proofs.StatusLaws.{breach_open, breach_sure, open_under}
 
 -- what is known of lists by their tests

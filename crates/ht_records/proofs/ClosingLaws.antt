@@ -7,21 +7,21 @@ use Rattle.std.proofs.lemmas.List.Elements.{All-head, All-tail}
 use Rattle.ht_tern.specs.Gate.{tern_of}
 use Rattle.ht_pairs.specs.Pairs.{Pair, pair, IsMember, is_member}
 use Rattle.ht_pairs.proofs.SetLaws.{is_member-from}
-use Rattle.ht_net.specs.Netlist.{Netlist, IsCircuit}
-use Rattle.ht_net.specs.Frame.{next_state}
-use Rattle.ht_net.specs.Faults.{bool_rules}
-use Rattle.ht_net.specs.Detection.{IsState}
+use Rattle.ht_net.specs.Circuit.Netlist.{Netlist, IsCircuit}
+use Rattle.ht_net.specs.Frames.Frame.{next_state}
+use Rattle.ht_net.specs.Frames.Faults.{bool_rules}
+use Rattle.ht_net.specs.Detect.Detection.{IsState}
 use Rattle.ht_net.proofs.DepthLaws.{circuit_depth}
 use Rattle.ht_tree.specs.declared.token.Assign3.{Assign3}
 use Rattle.ht_tree.specs.declared.token.Token.{Token}
 use Rattle.ht_tree.specs.declared.window.Spot.TheVariants.{State}
-use Rattle.ht_tree.specs.Walks.{IsComplete}
-use Rattle.ht_tree.specs.Places.{set_at}
+use Rattle.ht_tree.specs.Walk.Walks.{IsComplete}
+use Rattle.ht_tree.specs.Window.Places.{set_at}
 use Rattle.ht_tree.proofs.PairLaws.{bits}
 use Rattle.ht_tree.proofs.WindowLaws.{next_has}
 use Rattle.ht_tree.specs.declared.clause.Literal.{Literal}
-use Rattle.ht_tree.specs.Clauses.{AreKnown, AreKnownClauses, meets_literal, is_bit, meets, meets_each}
-use Rattle.ht_tree.specs.ClauseWindows.{breach, closing_window, good_window, judge_under, may_miss}
+use Rattle.ht_tree.specs.Clause.Clauses.{AreKnown, AreKnownClauses, meets_literal, is_bit, meets, meets_each}
+use Rattle.ht_tree.specs.Clause.ClauseWindows.{breach, closing_window, good_window, judge_under, may_miss}
 use Rattle.ht_records.proofs.DeadLaws.{DeadPath, dead_path}
 use Rattle.ht_records.proofs.StatusLaws.{breach_dead}
 

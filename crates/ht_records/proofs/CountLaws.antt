@@ -1,13 +1,13 @@
 -- A search of a window under clauses is never spent where its budget has room for twice the leaves of its variables.
 use Rattle.std.proofs.Common.{◌≡◌, ◌≤◌, ◌+◌, ◌^◌, ℕ, List, true, arith}
 use Rattle.ht_tree.specs.declared.token.Token.{Token}
-use Rattle.ht_tree.specs.Walks.{Node}
-use Rattle.ht_tree.specs.Windows.{Start, one_frame, unknown, state_pair, back}
-use Rattle.ht_tree.specs.Variables.{variable_count}
-use Rattle.ht_tree.specs.Searches.{SpendsAt}
-use Rattle.ht_tree.specs.Counts.{seeks_difference, undecided_at}
-use Rattle.ht_tree.specs.ClauseWindows.{ClauseWindow, IsClauseWindow, is_one_frame, judge_under}
-use Rattle.ht_tree.specs.ClauseSearches.{guide_under}
+use Rattle.ht_tree.specs.Walk.Walks.{Node}
+use Rattle.ht_tree.specs.Window.Windows.{Start, one_frame, unknown, state_pair, back}
+use Rattle.ht_tree.specs.Window.Variables.{variable_count}
+use Rattle.ht_tree.specs.Walk.Searches.{SpendsAt}
+use Rattle.ht_tree.specs.Walk.Counts.{seeks_difference, undecided_at}
+use Rattle.ht_tree.specs.Clause.ClauseWindows.{ClauseWindow, IsClauseWindow, is_one_frame, judge_under}
+use Rattle.ht_tree.specs.Clause.ClauseSearches.{guide_under}
 use Rattle.ht_tree.proofs.CountLaws.{enough}
 use Rattle.ht_tree.proofs.DifferenceCountLaws.{undecided_measures_by}
 

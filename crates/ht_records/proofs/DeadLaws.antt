@@ -4,19 +4,19 @@ use Rattle.std.proofs.Common.{◌≡◌, ℕ, List, Bool, true, Option, length, 
 use Rattle.std.proofs.lemmas.Bool.{false≢true}
 use Rattle.ht_tern.specs.declared.tern.Tern.{Tern}
 use Rattle.ht_net.specs.declared.fault.Fault.{Fault}
-use Rattle.ht_net.specs.Netlist.{Netlist}
-use Rattle.ht_net.specs.Detection.{IsState}
-use Rattle.ht_net.specs.Silence.{AgreeOutside}
+use Rattle.ht_net.specs.Circuit.Netlist.{Netlist}
+use Rattle.ht_net.specs.Detect.Detection.{IsState}
+use Rattle.ht_net.specs.Detect.Silence.{AgreeOutside}
 use Rattle.ht_tree.specs.declared.token.Assign3.{Assign3}
 use Rattle.ht_tree.specs.declared.token.Token.{Token}
 use Rattle.ht_tree.specs.declared.token.Status3.TheVariants.{Dead}
-use Rattle.ht_tree.specs.Walks.{Judge, IsComplete, root}
-use Rattle.ht_tree.specs.Decisions.{is_in}
+use Rattle.ht_tree.specs.Walk.Walks.{Judge, IsComplete, root}
+use Rattle.ht_tree.specs.Window.Decisions.{is_in}
 use Rattle.ht_tree.proofs.LeafLaws.{Leaf, closed_leaf}
 use Rattle.ht_tree.proofs.WindowLaws.{PathAllows, assigned, assignment, along_allows, frame_window}
 use Rattle.ht_tree.specs.declared.clause.Literal.{Literal}
-use Rattle.ht_tree.specs.Clauses.{AreKnownClauses, meets_each}
-use Rattle.ht_tree.specs.ClauseWindows.{ClauseWindow, Sought, judge_under, sought_status, status_under}
+use Rattle.ht_tree.specs.Clause.Clauses.{AreKnownClauses, meets_each}
+use Rattle.ht_tree.specs.Clause.ClauseWindows.{ClauseWindow, Sought, judge_under, sought_status, status_under}
 use Rattle.ht_records.proofs.MeetLaws.{none_broken}
 use Rattle.ht_records.proofs.StatusLaws.{dead_under}
 

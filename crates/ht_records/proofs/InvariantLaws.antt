@@ -4,16 +4,16 @@ use Rattle.std.specs.List.{All}
 use Rattle.std.proofs.lemmas.List.Elements.{All-map}
 use Rattle.std.proofs.lemmas.List.Sums.{list_all-from_AllPass}
 use Rattle.std.proofs.lemmas.List.FromFn.{length-map-range_with_len}
-use Rattle.ht_net.specs.Netlist.{Netlist, IsCircuit}
-use Rattle.ht_net.specs.Frame.{next_state, run_state}
-use Rattle.ht_net.specs.Faults.{bool_rules}
-use Rattle.ht_net.specs.Detection.{IsState}
+use Rattle.ht_net.specs.Circuit.Netlist.{Netlist, IsCircuit}
+use Rattle.ht_net.specs.Frames.Frame.{next_state, run_state}
+use Rattle.ht_net.specs.Frames.Faults.{bool_rules}
+use Rattle.ht_net.specs.Detect.Detection.{IsState}
 use Rattle.ht_tree.proofs.FittedLaws.{fitted, next_fitted}
 use Rattle.ht_net.proofs.ValueLaws.{next_long}
 use Rattle.ht_tree.specs.declared.clause.Literal.{Literal}
 use Rattle.ht_tree.specs.declared.clause.Clause.{Clause}
-use Rattle.ht_tree.specs.Clauses.{IsClause, literals_of, literals_of_each, meets, meets_each}
-use Rattle.ht_tree.specs.Invariants.{IsClosedUnder, IsInvariant}
+use Rattle.ht_tree.specs.Clause.Clauses.{IsClause, literals_of, literals_of_each, meets, meets_each}
+use Rattle.ht_tree.specs.Clause.Invariants.{IsClosedUnder, IsInvariant}
 use Rattle.ht_records.proofs.MeetLaws.{clause_known, clauses_known}
 use Rattle.ht_records.proofs.ClosingLaws.{closed_keeps}
 

@@ -7,11 +7,11 @@ use Rattle.ht_tern.specs.declared.tern.Tern.{Tern}
 use Rattle.ht_tern.specs.Gate.{tern_of}
 use Rattle.ht_pairs.specs.Pairs.{IsMember}
 use Rattle.ht_pairs.specs.Decided.{values_left}
-use Rattle.ht_net.specs.Netlist.{Netlist}
+use Rattle.ht_net.specs.Circuit.Netlist.{Netlist}
 use Rattle.ht_tree.specs.declared.token.Assign3.{Assign3}
 use Rattle.ht_tree.specs.declared.clause.Literal.{Literal}
 use Rattle.ht_tree.specs.declared.clause.Clause.{Clause}
-use Rattle.ht_tree.specs.Clauses.{AreKnown, AreKnownClauses, IsClause, IsSecond, meets_literal, is_bit, is_decided_against, is_decided_to, latch_value, literals_of, literals_of_each, meets, meets_each, path_breaks, path_meets, second_of}
+use Rattle.ht_tree.specs.Clause.Clauses.{AreKnown, AreKnownClauses, IsClause, IsSecond, meets_literal, is_bit, is_decided_against, is_decided_to, latch_value, literals_of, literals_of_each, meets, meets_each, path_breaks, path_meets, second_of}
 
 decided_bit : (bit b : Bool) → is_decided_to bit (Some (tern_of b)) ≡ is_bit bit b
 decided_bit true true = refl

@@ -7,21 +7,21 @@ use Rattle.ht_tern.specs.Opposite.{Opposite}
 use Rattle.ht_pairs.specs.Pairs.{Pair, pair, IsMember, MayDiffer}
 use Rattle.ht_pairs.specs.Decided.{same_pairs}
 use Rattle.ht_net.specs.declared.fault.Fault.{Fault}
-use Rattle.ht_net.specs.Netlist.{Netlist}
-use Rattle.ht_net.specs.Frame.{frame_outputs, net_value, next_state, run_outputs, run_state}
-use Rattle.ht_net.specs.Faults.{tern_rules}
+use Rattle.ht_net.specs.Circuit.Netlist.{Netlist}
+use Rattle.ht_net.specs.Frames.Frame.{frame_outputs, net_value, next_state, run_outputs, run_state}
+use Rattle.ht_net.specs.Frames.Faults.{tern_rules}
 use Rattle.ht_net.proofs.FrameLaws.{le_or_lt}
 use Rattle.ht_net.proofs.RelationLaws.{next_related, outputs_related}
 use Rattle.ht_net.proofs.ValueLaws.{seen_length, taken_length}
-use Rattle.ht_net.specs.Detection.{Detects, DetectsFrom, IsStart, state_from, terns_of, unknown_state}
+use Rattle.ht_net.specs.Detect.Detection.{Detects, DetectsFrom, IsStart, state_from, terns_of, unknown_state}
 use Rattle.ht_net.proofs.MoreToldLaws.{detects_where_refined, start_refines_unknown}
-use Rattle.ht_tree.specs.Reached.{AreVectors}
-use Rattle.ht_tree.specs.Windows.{pair_set_rules}
+use Rattle.ht_tree.specs.Record.Reached.{AreVectors}
+use Rattle.ht_tree.specs.Window.Windows.{pair_set_rules}
 use Rattle.ht_tree.proofs.PairLaws.{Has, bits, pair_rules, paired, sets_keep}
 use Rattle.ht_records.proofs.PairRunLaws.{FaultyIs, GoodIs, faulty_half, good_half, paired_half}
 use Rattle.ht_records.proofs.WidthLaws.{fit_list, fit_vectors, shows_fitted}
-use Rattle.ht_net.specs.Undetectable.{IsUndetectable}
-use Rattle.ht_tree.specs.ClosedFamilies.{Closes, Family, HoldsState, IncludesEach, any_vector, shown_sets, taken_sets}
+use Rattle.ht_net.specs.Detect.Undetectable.{IsUndetectable}
+use Rattle.ht_tree.specs.Record.ClosedFamilies.{Closes, Family, HoldsState, IncludesEach, any_vector, shown_sets, taken_sets}
 
 -- in a frame of every vector, there is a set for each flip-flop to take
 pub taken_long : (c : Netlist) (fault : Fault) (family : Family)

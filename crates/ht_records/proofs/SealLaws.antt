@@ -3,26 +3,26 @@
 use Rattle.std.proofs.Common.{◌≡◌, ℕ, List, [], ◌∷◌, Bool, true, false, Some, None, length, get_or, refl, sym, ◌∙◌, ap, arith}
 use Rattle.std.proofs.lemmas.List.FromFn.{length-map-range_with_len}
 use Rattle.ht_net.specs.declared.fault.Fault.{Fault}
-use Rattle.ht_net.specs.Netlist.{Netlist, IsCircuit, no_net}
-use Rattle.ht_net.specs.Frame.{net_value, frame_outputs, next_state, run_outputs}
-use Rattle.ht_net.specs.Faults.{bool_rules}
-use Rattle.ht_net.specs.Detection.{IsState}
-use Rattle.ht_net.specs.Silence.{AgreeOutside}
+use Rattle.ht_net.specs.Circuit.Netlist.{Netlist, IsCircuit, no_net}
+use Rattle.ht_net.specs.Frames.Frame.{net_value, frame_outputs, next_state, run_outputs}
+use Rattle.ht_net.specs.Frames.Faults.{bool_rules}
+use Rattle.ht_net.specs.Detect.Detection.{IsState}
+use Rattle.ht_net.specs.Detect.Silence.{AgreeOutside}
 use Rattle.ht_net.proofs.DepthLaws.{circuit_depth}
 use Rattle.ht_net.proofs.ValueLaws.{seen_same, next_long}
 use Rattle.ht_tree.specs.declared.token.Token.{Token}
 use Rattle.ht_tree.specs.declared.window.Spot.TheVariants.{Output, State}
-use Rattle.ht_tree.specs.Walks.{IsComplete}
-use Rattle.ht_tree.specs.Decisions.{is_in}
-use Rattle.ht_tree.specs.Windows.{SearchWindow, one_frame_window}
-use Rattle.ht_tree.specs.Places.{set_at}
+use Rattle.ht_tree.specs.Walk.Walks.{IsComplete}
+use Rattle.ht_tree.specs.Window.Decisions.{is_in}
+use Rattle.ht_tree.specs.Window.Windows.{SearchWindow, one_frame_window}
+use Rattle.ht_tree.specs.Window.Places.{set_at}
 use Rattle.ht_tree.proofs.FittedLaws.{fitted, outputs_fitted, next_fitted}
 use Rattle.ht_tree.proofs.PlaceLaws.{output_listed, state_listed, place_quiet, bits_same}
 use Rattle.ht_tree.proofs.WindowLaws.{cell_has, next_has}
 use Rattle.ht_tree.specs.declared.clause.Literal.{Literal}
-use Rattle.ht_tree.specs.Clauses.{AreKnownClauses, meets_each}
-use Rattle.ht_tree.specs.ClauseWindows.{difference, judge_under, window_under}
-use Rattle.ht_tree.specs.SealedInClauses.{SealedIn}
+use Rattle.ht_tree.specs.Clause.Clauses.{AreKnownClauses, meets_each}
+use Rattle.ht_tree.specs.Clause.ClauseWindows.{difference, judge_under, window_under}
+use Rattle.ht_tree.specs.Clause.SealedInClauses.{SealedIn}
 use Rattle.ht_records.proofs.DeadLaws.{DeadPath, dead_path}
 use Rattle.ht_records.proofs.InvariantLaws.{AreKept, kept_fitted}
 

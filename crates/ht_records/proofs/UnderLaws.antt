@@ -3,23 +3,23 @@
 use Rattle.std.specs.List.{find, list_all, list_any}
 use Rattle.std.proofs.Common.{◌≡◌, ◌≤◌, ◌+◌, ◌^◌, ℕ, List, false, not, cond, refl, arith}
 use Rattle.std.proofs.Math.Pow.{pow_mono}
-use Rattle.ht_net.specs.Netlist.{IsCircuit, Netlist}
+use Rattle.ht_net.specs.Circuit.Netlist.{IsCircuit, Netlist}
 use Rattle.ht_net.specs.declared.fault.Fault.{Fault}
-use Rattle.ht_tree.specs.Budgets.{refutation_cost}
-use Rattle.ht_tree.specs.Decisions.{decided_value, is_in}
-use Rattle.ht_tree.specs.Searches.{SpendsAt}
-use Rattle.ht_tree.specs.Variables.{variable_count}
-use Rattle.ht_tree.specs.Walks.{Node, path_of}
-use Rattle.ht_tree.specs.WindowStatus.{without_place}
+use Rattle.ht_tree.specs.Walk.Budgets.{refutation_cost}
+use Rattle.ht_tree.specs.Window.Decisions.{decided_value, is_in}
+use Rattle.ht_tree.specs.Walk.Searches.{SpendsAt}
+use Rattle.ht_tree.specs.Window.Variables.{variable_count}
+use Rattle.ht_tree.specs.Walk.Walks.{Node, path_of}
+use Rattle.ht_tree.specs.Window.WindowStatus.{without_place}
 use Rattle.ht_tree.specs.declared.token.Assign3.{Assign3}
 use Rattle.ht_tree.specs.declared.token.Status3.TheVariants.{Dead}
 use Rattle.ht_tree.specs.declared.token.Token.{Token}
 use Rattle.ht_tree.proofs.DifferenceCountLaws.{few_variables}
 use Rattle.ht_records.proofs.SetLaws.{pick_same, status_same, two_same}
 use Rattle.ht_tree.specs.declared.clause.Literal.{Literal}
-use Rattle.ht_tree.specs.Clauses.{AreKnownClauses, is_decided_against, is_decided_to, path_breaks, path_meets}
-use Rattle.ht_tree.specs.ClauseWindows.{ClauseWindow, open_if_sure, window_under}
-use Rattle.ht_tree.specs.ClauseSearches.{choice_if_open, choice_or, guide_under, to_clause}
+use Rattle.ht_tree.specs.Clause.Clauses.{AreKnownClauses, is_decided_against, is_decided_to, path_breaks, path_meets}
+use Rattle.ht_tree.specs.Clause.ClauseWindows.{ClauseWindow, open_if_sure, window_under}
+use Rattle.ht_tree.specs.Clause.ClauseSearches.{choice_if_open, choice_or, guide_under, to_clause}
 use Rattle.ht_records.proofs.CountLaws.{clause_search_enough}
 
 module _ (c : Netlist) (fault : Fault) (clauses : List (List Literal)) (z z' : List ℕ)

@@ -2,8 +2,8 @@
 use Rattle.std.proofs.Common.{◌≡◌, ◌<◌, ◌≤◌, ◌+◌, ◌*◌, ◌^◌, ℕ, suc, zero, List, [], ◌∷◌, length, get_or, ap, inl, inr, arith, subst}
 use Rattle.std.proofs.Math.Nat.{mul-le-mul_right, mul_comm, suc-mul}
 use Rattle.ht_net.proofs.FrameLaws.{le_or_lt}
-use Rattle.ht_tree.specs.Budgets.{sweep_cost}
-use Rattle.ht_tree.specs.SearchRecords.{sweep_weight}
+use Rattle.ht_tree.specs.Walk.Budgets.{sweep_cost}
+use Rattle.ht_tree.specs.Record.SearchRecords.{sweep_weight}
 use Rattle.ht_tree.specs.declared.token.Token.{Token}
 
 -- walks of windows of k + 1 frames and so on weigh less than what these windows cost

@@ -10,7 +10,7 @@ use Rattle.ht_tern.specs.Opposite.{are_opposite}
 use Rattle.ht_pairs.specs.Pairs.{Pair, pair, IsMember, IsChoice, differs, gate_pair, lifted_set}
 use Rattle.ht_pairs.specs.Decided.{same_pairs}
 use Rattle.ht_pairs.proofs.SetLaws.{lifted_set_holds, map_member}
-use Rattle.ht_tree.specs.Decisions.{latch_values_left}
+use Rattle.ht_tree.specs.Window.Decisions.{latch_values_left}
 use Rattle.ht_relevant.specs.Alike.{IsAlike}
 
 -- pairs of a value with itself

@@ -6,7 +6,7 @@ use Rattle.std.proofs.lemmas.List.{get_or_past, get_or-replicate, length-set, le
 use Rattle.std.proofs.lemmas.List.Elements.{Contains-push, Contains-append_left, Contains-push_cases}
 use Rattle.std.proofs.lemmas.List.Sums.{sum_by-set}
 use Rattle.std.proofs.lemmas.Bool.{lt-ltb, le-ltb}
-use Rattle.ht_net.specs.Netlist.{Netlist}
+use Rattle.ht_net.specs.Circuit.Netlist.{Netlist}
 use Rattle.ht_relevant.specs.declared.way.Way.{Way}
 use Rattle.ht_relevant.specs.Steps.{AreSpread}
 use Rattle.ht_relevant.specs.Distances.{DistanceState, AreDistances, AreFollowed, HasGrown, IsFollowed, IsLower, number_of, if_none}

@@ -1,7 +1,7 @@
 -- One net is followed to what its driver reads.
 use Rattle.std.proofs.Common.{◌≡◌, ◌<◌, ◌≤◌, ◌+◌, ℕ, length, get_or, subst, arith}
 use Rattle.std.specs.List.{Contains}
-use Rattle.ht_net.specs.Netlist.{Netlist, first_gate_net, gate_at, arg_at, no_net}
+use Rattle.ht_net.specs.Circuit.Netlist.{Netlist, first_gate_net, gate_at, arg_at, no_net}
 use Rattle.ht_relevant.specs.declared.way.Way.TheVariants.{Drivers}
 use Rattle.ht_relevant.specs.Distances.{DistanceState, IsFollowed, number_of}
 

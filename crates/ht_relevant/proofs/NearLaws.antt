@@ -3,9 +3,9 @@ use Rattle.std.proofs.Common.{◌≡◌, ◌∙◌, ◌<◌, ◌≤◌, ◌+◌,
 use Rattle.std.proofs.lemmas.Bool.{lt-ltb, ltb-true}
 use Rattle.std.specs.Prelude.{ltb}
 use Rattle.ht_net.specs.declared.fault.Fault.{Fault}
-use Rattle.ht_net.specs.Netlist.{Netlist, first_gate_net, net_count, arg_at, no_net}
-use Rattle.ht_net.specs.Faults.{is_data_pin}
-use Rattle.ht_tree.specs.Windows.{IsWindow, SearchWindow}
+use Rattle.ht_net.specs.Circuit.Netlist.{Netlist, first_gate_net, net_count, arg_at, no_net}
+use Rattle.ht_net.specs.Frames.Faults.{is_data_pin}
+use Rattle.ht_tree.specs.Window.Windows.{IsWindow, SearchWindow}
 use Rattle.ht_relevant.specs.declared.way.Way.TheVariants.{Readers, Drivers}
 use Rattle.ht_relevant.specs.Distances.{DistanceState, HasGrown, IsLower, number_of}
 use Rattle.ht_relevant.specs.Near.{RelevantState, has_come, matters}

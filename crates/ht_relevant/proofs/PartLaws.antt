@@ -1,7 +1,7 @@
 -- A part of a frame that is closed back settles to the values of the whole frame.
 use Rattle.std.proofs.Common.{◌≡◌, ◌∙◌, ◌<◌, ◌≤◌, ◌+◌, ◌-◌, ℕ, suc, zero, List, Bool, true, length, get_or, sym, ap, inl, inr, arith, subst}
-use Rattle.ht_net.specs.Netlist.{Netlist, IsCircuit, first_gate_net, net_count, gate_at, arg_at}
-use Rattle.ht_net.specs.Frame.{Rules, net_value_over, net_value_within, net_value}
+use Rattle.ht_net.specs.Circuit.Netlist.{Netlist, IsCircuit, first_gate_net, net_count, gate_at, arg_at}
+use Rattle.ht_net.specs.Frames.Frame.{Rules, net_value_over, net_value_within, net_value}
 use Rattle.ht_net.proofs.Depth.{IsDepth}
 use Rattle.ht_net.proofs.DepthLaws.{circuit_depth}
 use Rattle.ht_net.proofs.FrameLaws.{le_or_lt, driven_input, driven_latch, driven_gate, gate_same}

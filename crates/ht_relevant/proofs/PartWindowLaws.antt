@@ -3,13 +3,13 @@ use Rattle.std.proofs.Common.{◌≡◌, ◌≢◌, ◌∙◌, ◌<◌, ◌≤�
 use Rattle.std.proofs.lemmas.Bool.Decides.{eqb_tells}
 use Rattle.ht_tern.specs.declared.tern.Tern.TheVariants.{Unk}
 use Rattle.ht_pairs.specs.Pairs.{Pair, pair}
-use Rattle.ht_net.specs.Netlist.{first_gate_net, net_count, arg_at, no_net}
-use Rattle.ht_net.specs.Frame.{data_values, net_value_over, next_state}
+use Rattle.ht_net.specs.Circuit.Netlist.{first_gate_net, net_count, arg_at, no_net}
+use Rattle.ht_net.specs.Frames.Frame.{data_values, net_value_over, next_state}
 use Rattle.ht_net.proofs.DepthLaws.{circuit_depth}
 use Rattle.ht_net.proofs.FrameLaws.{frame_settled}
 use Rattle.ht_net.proofs.ValueLaws.{taken_get}
 use Rattle.ht_tree.specs.declared.token.Assign3.{Assign3}
-use Rattle.ht_tree.specs.Windows.{SearchWindow, IsWindow, cell_at, first_latches, frame_inputs, latches_at, pair_set_rules}
+use Rattle.ht_tree.specs.Window.Windows.{SearchWindow, IsWindow, cell_at, first_latches, frame_inputs, latches_at, pair_set_rules}
 use Rattle.ht_relevant.specs.Relevant.{IsClosedBack}
 use Rattle.ht_relevant.proofs.PartLaws.{over_alike, part_is_frame}
 

@@ -3,8 +3,8 @@ use Rattle.std.proofs.Common.{◌≡◌, ◌≢◌, ◌<◌, ◌≤◌, ◌+◌,
 use Rattle.std.proofs.lemmas.Bool.Decides.{eqb_tells}
 use Rattle.ht_net.specs.declared.fault.Site.{Site}
 use Rattle.ht_net.specs.declared.net.NetId.{NetId}
-use Rattle.ht_net.specs.Faults.{is_data_pin}
-use Rattle.ht_net.specs.Netlist.{no_net}
+use Rattle.ht_net.specs.Frames.Faults.{is_data_pin}
+use Rattle.ht_net.specs.Circuit.Netlist.{no_net}
 use Rattle.ht_relevant.specs.Distances.{DistanceState, HasGrown, number_of}
 use Rattle.ht_relevant.proofs.DistanceLaws.{grown_same, grown_more}
 

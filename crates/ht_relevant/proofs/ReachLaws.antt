@@ -11,17 +11,17 @@ use Rattle.ht_net.specs.declared.net.NetId.{NetId}
 use Rattle.ht_net.specs.declared.fault.Site.{Site}
 use Rattle.ht_net.specs.declared.fault.Site.TheVariants.{Stem, DffPin, GatePin}
 use Rattle.ht_net.specs.declared.fault.Fault.{Fault}
-use Rattle.ht_net.specs.Netlist.{Netlist, first_gate_net, net_count, gate_at, arg_at, no_net}
-use Rattle.ht_net.specs.Frame.{Rules, pin_values, gate_output, net_value_over, net_value_within, net_value, next_state}
-use Rattle.ht_net.specs.Faults.{forced, is_stem, is_pin, is_data_pin}
+use Rattle.ht_net.specs.Circuit.Netlist.{Netlist, first_gate_net, net_count, gate_at, arg_at, no_net}
+use Rattle.ht_net.specs.Frames.Frame.{Rules, pin_values, gate_output, net_value_over, net_value_within, net_value, next_state}
+use Rattle.ht_net.specs.Frames.Faults.{forced, is_stem, is_pin, is_data_pin}
 use Rattle.ht_net.proofs.FrameLaws.{le_or_lt, driven_input, driven_latch, driven_gate}
 use Rattle.ht_net.proofs.ValueLaws.{taken_get}
 use Rattle.ht_tree.specs.declared.token.Assign3.{Assign3}
 use Rattle.ht_tree.specs.declared.window.Spot.TheVariants.{State}
-use Rattle.ht_tree.specs.Decisions.{decided_value, latch_pairs}
-use Rattle.ht_tree.specs.Places.{set_at}
-use Rattle.ht_tree.specs.Windows.{Start, one_frame, unknown, state_pair, back, SearchWindow, IsWindow, cell_at, first_input, first_latch, frame_inputs, input_set, latches_at, pair_set_rules}
-use Rattle.ht_tree.specs.WindowStatus.{value_at}
+use Rattle.ht_tree.specs.Window.Decisions.{decided_value, latch_pairs}
+use Rattle.ht_tree.specs.Window.Places.{set_at}
+use Rattle.ht_tree.specs.Window.Windows.{Start, one_frame, unknown, state_pair, back, SearchWindow, IsWindow, cell_at, first_input, first_latch, frame_inputs, input_set, latches_at, pair_set_rules}
+use Rattle.ht_tree.specs.Window.WindowStatus.{value_at}
 use Rattle.ht_relevant.specs.Alike.{IsAlike}
 use Rattle.ht_relevant.specs.Reached.{IsReach, begins_at, leads_to, may_begin_apart}
 use Rattle.ht_relevant.proofs.AlikeLaws.{AllAlike, same_alike, left_alike, one_alike, lifted_alike}

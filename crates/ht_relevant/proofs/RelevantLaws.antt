@@ -1,9 +1,9 @@
 -- What is marked where a difference may show, and what is read there, is what matters.
 use Rattle.std.proofs.Common.{◌≡◌, ◌<◌, ◌⊎◌, ℕ, Bool, true, Some, length, get_or, sym, ◌∙◌, ap, inl, inr}
 use Rattle.ht_net.specs.declared.fault.Fault.{Fault}
-use Rattle.ht_net.specs.Netlist.{no_net}
-use Rattle.ht_net.specs.Faults.{is_data_pin}
-use Rattle.ht_tree.specs.Windows.{SearchWindow, IsWindow}
+use Rattle.ht_net.specs.Circuit.Netlist.{no_net}
+use Rattle.ht_net.specs.Frames.Faults.{is_data_pin}
+use Rattle.ht_tree.specs.Window.Windows.{SearchWindow, IsWindow}
 use Rattle.ht_relevant.specs.Reached.{IsReach}
 use Rattle.ht_relevant.specs.Relevant.{IsClosedBack, IsRelevant, counts_state}
 use Rattle.ht_relevant.proofs.ReachLaws.{cell_alike, state_alike, unmarked}

@@ -1,7 +1,7 @@
 -- A search in breadth goes on net by net and frame by frame.
 use Rattle.std.proofs.Common.{◌≡◌, ◌∙◌, ◌<◌, ◌≤◌, ◌+◌, ℕ, List, [], ◌∷◌, ◌++◌, length, refl, sym, ap, subst, arith}
 use Rattle.std.proofs.lemmas.List.{length_push}
-use Rattle.ht_net.specs.Netlist.{Netlist}
+use Rattle.ht_net.specs.Circuit.Netlist.{Netlist}
 use Rattle.ht_relevant.specs.declared.way.Way.{Way}
 use Rattle.ht_relevant.specs.Distances.{DistanceState, AreFollowed, HasGrown, IsFollowed, IsLower, number_of, left_to_do}
 use Rattle.ht_relevant.proofs.DistanceLaws.{lower_more, popped_followed, next_followed}

@@ -3,7 +3,7 @@ use Rattle.std.proofs.Common.{◌≡◌, ◌∙◌, ◌<◌, ◌≤◌, ◌+◌,
 use Rattle.std.specs.List.{Contains}
 use Rattle.std.proofs.lemmas.List.{get_or_default}
 use Rattle.std.proofs.lemmas.Bool.{lt-ltb, le-ltb}
-use Rattle.ht_net.specs.Netlist.{gate_at, arg_at}
+use Rattle.ht_net.specs.Circuit.Netlist.{gate_at, arg_at}
 use Rattle.ht_events.specs.Ranks.{AreRanked}
 use Rattle.ht_events.specs.Items.{ReadsNet, driven_net, frame_items}
 use Rattle.ht_events.specs.FramePlans.{FramePlanState, IsOffsetTable, reader_offset}

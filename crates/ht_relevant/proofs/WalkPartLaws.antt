@@ -1,14 +1,14 @@
 -- The walk back from a net that matters comes to nets that matter.
 use Rattle.std.proofs.Common.{◌≡◌, ◌<◌, ◌≤◌, ◌+◌, ◌-◌, ℕ, List, Bool, true, length, sym, inl, inr, arith, subst}
 use Rattle.ht_pairs.specs.Pairs.{Pair}
-use Rattle.ht_net.specs.Netlist.{first_gate_net, net_count, gate_at, arg_at}
-use Rattle.ht_net.specs.Frame.{gate_output, pin_values}
-use Rattle.ht_net.specs.Faults.{is_pin}
+use Rattle.ht_net.specs.Circuit.Netlist.{first_gate_net, net_count, gate_at, arg_at}
+use Rattle.ht_net.specs.Frames.Frame.{gate_output, pin_values}
+use Rattle.ht_net.specs.Frames.Faults.{is_pin}
 use Rattle.ht_net.proofs.DepthLaws.{circuit_depth}
 use Rattle.ht_net.proofs.FrameLaws.{driven_gate}
 use Rattle.ht_tree.specs.declared.token.Assign3.{Assign3}
-use Rattle.ht_tree.specs.Windows.{SearchWindow, IsWindow, cell_at, frame_inputs, latches_at, pair_set_rules}
-use Rattle.ht_tree.specs.WalkBack.{undetermined_argument}
+use Rattle.ht_tree.specs.Window.Windows.{SearchWindow, IsWindow, cell_at, frame_inputs, latches_at, pair_set_rules}
+use Rattle.ht_tree.specs.Window.WalkBack.{undetermined_argument}
 use Rattle.ht_tree.proofs.BackLaws.{driver_undetermined}
 use Rattle.ht_tree.proofs.UndeterminedLaws.{UndeterminedArgument, forced_undetermined, lifted_few, undetermined_or_few}
 use Rattle.ht_relevant.specs.Relevant.{IsClosedBack}

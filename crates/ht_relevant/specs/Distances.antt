@@ -1,7 +1,7 @@
 -- Numbers of frames while they are found, nearest first.
 use Rattle.std.specs.Prelude.{◌≡◌, ◌<◌, ◌≤◌, ◌+◌, ◌⊎◌, ℕ, List, cond, ltb, length, get_or}
 use Rattle.std.specs.List.{Contains, sum_by}
-use Rattle.ht_net.specs.Netlist.{Netlist}
+use Rattle.ht_net.specs.Circuit.Netlist.{Netlist}
 use Rattle.ht_events.specs.FrameLengths.{max_frames}
 use Rattle.ht_relevant.specs.declared.way.Way.{Way}
 use Rattle.ht_relevant.specs.declared.distances.Distances.TheInside.{Inside}

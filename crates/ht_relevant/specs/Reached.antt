@@ -4,10 +4,10 @@ use Rattle.ht_pairs.specs.Pairs.{same_tern}
 use Rattle.ht_net.specs.declared.fault.Site.{Site}
 use Rattle.ht_net.specs.declared.fault.Site.TheVariants.{Stem, DffPin, GatePin}
 use Rattle.ht_net.specs.declared.fault.Fault.{Fault}
-use Rattle.ht_net.specs.Netlist.{Netlist, first_gate_net, net_count, gate_at, arg_at, no_net}
-use Rattle.ht_tree.specs.Decisions.{is_in}
-use Rattle.ht_tree.specs.Windows.{Start, one_frame, unknown, state_pair, back, SearchWindow}
-use Rattle.ht_tree.specs.WindowStatus.{value_at}
+use Rattle.ht_net.specs.Circuit.Netlist.{Netlist, first_gate_net, net_count, gate_at, arg_at, no_net}
+use Rattle.ht_tree.specs.Window.Decisions.{is_in}
+use Rattle.ht_tree.specs.Window.Windows.{Start, one_frame, unknown, state_pair, back, SearchWindow}
+use Rattle.ht_tree.specs.Window.WindowStatus.{value_at}
 
 -- a line is the stem of net x, or a pin of what drives net x
 abbrev pub leads_to : Netlist → Site → ℕ → Bool

@@ -1,6 +1,6 @@
 -- Steps from net to net: to what reads a net, or to what its driver reads.
 use Rattle.std.specs.Prelude.{◌≡◌, ◌<◌, ◌≤◌, ◌+◌, ℕ, length, get_or}
-use Rattle.ht_net.specs.Netlist.{Netlist, first_gate_net, gate_at, arg_at, no_net}
+use Rattle.ht_net.specs.Circuit.Netlist.{Netlist, first_gate_net, gate_at, arg_at, no_net}
 use Rattle.ht_relevant.specs.declared.way.Way.{Way}
 use Rattle.ht_relevant.specs.declared.way.Way.TheVariants.{Readers, Drivers}
 

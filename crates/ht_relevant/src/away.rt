@@ -1,7 +1,7 @@
 //! How many frames a fault needs to reach each net.
 ghost use Rattle.std.specs.Prelude.{◌≡◌, ◌<◌, ◌≤◌, ◌+◌, ℕ, true, false, Some, length, get_or, IfOk, IfSome, OnOk};
-ghost use Rattle.ht_net.specs.Netlist.{net_count};
-ghost use Rattle.ht_tree.specs.Windows.{SearchWindow};
+ghost use Rattle.ht_net.specs.Circuit.Netlist.{net_count};
+ghost use Rattle.ht_tree.specs.Window.Windows.{SearchWindow};
 ghost use Rattle.ht_relevant.specs.Distances.{HasGrown, number_of};
 ghost use Rattle.ht_relevant.specs.Near.{has_come};
 ghost use Rattle.ht_relevant.specs.Reached.{IsReach, leads_to, may_begin_apart};

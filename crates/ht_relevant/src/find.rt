@@ -1,8 +1,8 @@
 //! How the nets are found that matter in a window.
 ghost use Rattle.std.specs.Prelude.{◌≡◌, ◌<◌, ◌≤◌, ◌⊎◌, ℕ, true, false, Some, length, get_or, IfOk, OnOk};
-ghost use Rattle.ht_net.specs.Netlist.{net_count, no_net};
-ghost use Rattle.ht_net.specs.Faults.{is_data_pin};
-ghost use Rattle.ht_tree.specs.Windows.{IsWindow, SearchWindow};
+ghost use Rattle.ht_net.specs.Circuit.Netlist.{net_count, no_net};
+ghost use Rattle.ht_net.specs.Frames.Faults.{is_data_pin};
+ghost use Rattle.ht_tree.specs.Window.Windows.{IsWindow, SearchWindow};
 ghost use Rattle.ht_relevant.specs.Distances.{HasGrown, number_of};
 ghost use Rattle.ht_relevant.specs.Near.{matters};
 ghost use Rattle.ht_relevant.specs.Reached.{may_begin_apart};

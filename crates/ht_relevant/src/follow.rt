@@ -1,7 +1,7 @@
 //! Where nets lead.
 ghost use Rattle.std.specs.Prelude.{◌≡◌, ◌<◌, ◌≤◌, ◌+◌, ℕ, length, OnOk};
 ghost use Rattle.ht_events.specs.Items.{frame_items};
-ghost use Rattle.ht_net.specs.Netlist.{arg_at, gate_at, net_count};
+ghost use Rattle.ht_net.specs.Circuit.Netlist.{arg_at, gate_at, net_count};
 ghost use Rattle.ht_relevant.specs.declared.way.Way.TheVariants.{Readers, Drivers};
 ghost use Rattle.ht_relevant.specs.Distances.{HasGrown, IsFollowed, number_of};
 ghost use Rattle.ht_relevant.specs.Offsets.{IsTaken};

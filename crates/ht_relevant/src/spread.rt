@@ -1,6 +1,6 @@
 //! A search in breadth over nets, by frames of distance.
 ghost use Rattle.std.specs.Prelude.{◌≡◌, ◌<◌, ◌+◌, [], length, OnOk};
-ghost use Rattle.ht_net.specs.Netlist.{Netlist, net_count};
+ghost use Rattle.ht_net.specs.Circuit.Netlist.{Netlist, net_count};
 ghost use Rattle.ht_relevant.specs.declared.way.Way.{Way};
 ghost use Rattle.ht_relevant.specs.Distances.{AreFollowed, IsLower, number_of};
 ghost use Rattle.ht_relevant.specs.Steps.{AreSpread};

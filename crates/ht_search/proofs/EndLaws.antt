@@ -1,7 +1,7 @@
 -- How a search ends.
 use Rattle.std.proofs.Common.{◌≡◌, ◌<◌, ◌+◌, ◌*◌, ℕ, length, reverse, arith}
-use Rattle.ht_tree.specs.Walks.{IsOpen, root_stack, stack_after}
-use Rattle.ht_tree.specs.Searches.{Guide, Keeps, IsFound, SpendsAt}
+use Rattle.ht_tree.specs.Walk.Walks.{IsOpen, root_stack, stack_after}
+use Rattle.ht_tree.specs.Walk.Searches.{Guide, Keeps, IsFound, SpendsAt}
 use Rattle.ht_search.specs.declared.problem.Point.{Point}
 use Rattle.ht_search.specs.declared.progress.SearchProgress.{SearchProgress}
 use Rattle.ht_search.specs.Routes.{Route}

@@ -8,8 +8,8 @@ use Rattle.ht_tree.specs.declared.token.Token.{Token}
 use Rattle.ht_tree.specs.declared.token.Token.TheVariants as token
 use Rattle.ht_tree.specs.declared.token.Choice.TheVariants as choice
 use Rattle.ht_tree.specs.declared.token.Status3.TheVariants as status
-use Rattle.ht_tree.specs.Walks.{Node, AllFit, Fits, decide, under, root_stack, next_stack, stack_after}
-use Rattle.ht_tree.specs.Searches.{Guide, AllChosen, IsChosen}
+use Rattle.ht_tree.specs.Walk.Walks.{Node, AllFit, Fits, decide, under, root_stack, next_stack, stack_after}
+use Rattle.ht_tree.specs.Walk.Searches.{Guide, AllChosen, IsChosen}
 use Rattle.ht_tree.proofs.WalkLaws.{stack_push, fit_push, chosen_push}
 use Rattle.ht_search.specs.declared.problem.Point.{Point}
 use Rattle.ht_search.specs.declared.progress.Untried.{Untried}

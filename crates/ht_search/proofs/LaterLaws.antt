@@ -2,7 +2,7 @@
 use Rattle.std.proofs.Common.{◌≡◌, ◌≢◌, ◌<◌, ◌+◌, ◌⊎◌, List, [], ◌∷◌, ◌++◌, false, refl, inl, inr, arith}
 use Rattle.std.proofs.lemmas.Bool.Decides.{eqb_tells}
 use Rattle.ht_tree.specs.declared.token.Assign3.{Assign3}
-use Rattle.ht_tree.specs.Walks.{decide, under}
+use Rattle.ht_tree.specs.Walk.Walks.{decide, under}
 use Rattle.ht_search.specs.declared.problem.Point.{Point}
 use Rattle.ht_search.specs.Routes.{stops, is_same_point, back_to, MovesOn}
 use Rattle.ht_search.specs.WindowSteps.{Step, Decides, Enters, node_of, windows_entered, last_decided, point_of, route_of}

@@ -5,7 +5,7 @@ use Rattle.ht_tern.specs.declared.tern.Tern.{Tern}
 use Rattle.ht_tern.specs.declared.tern.Tern.TheVariants.{Zero, One, Unk}
 use Rattle.ht_tern.specs.Gate.{tern_of}
 use Rattle.ht_tree.specs.declared.token.Token.TheVariants as token
-use Rattle.ht_tree.specs.Walks.{Node, Judge, Fits}
+use Rattle.ht_tree.specs.Walk.Walks.{Node, Judge, Fits}
 use Rattle.ht_search.specs.Legal.{MayDecide}
 
 -- where `Two` fits, its variable may get either bit

@@ -4,8 +4,8 @@ use Rattle.ht_tern.specs.declared.tern.Tern.{Tern}
 use Rattle.ht_tern.specs.declared.tern.Tern.TheVariants.{Zero, One, Unk}
 use Rattle.ht_tern.specs.Gate.{tern_of}
 use Rattle.ht_tree.specs.declared.token.Token.TheVariants as token
-use Rattle.ht_tree.specs.Walks.{Node, Judge, decide, under, next_stack}
-use Rattle.ht_tree.specs.Searches.{IsOnTop}
+use Rattle.ht_tree.specs.Walk.Walks.{Node, Judge, decide, under, next_stack}
+use Rattle.ht_tree.specs.Walk.Searches.{IsOnTop}
 use Rattle.ht_search.specs.declared.problem.Point.{Point}
 use Rattle.ht_search.specs.declared.progress.Untried.{Untried}
 use Rattle.ht_search.specs.Legal.{MayDecide}

@@ -3,7 +3,7 @@ use Rattle.std.proofs.Common.{◌≡◌, ◌+◌, ℕ, suc, List, [], ◌∷◌,
 use Rattle.std.proofs.lemmas.List.{reverse-append, reverse-reverse, length_push, length-reverse, get_or_push, append-nil}
 use Rattle.std.proofs.Math.Seq.{drop-append_seam}
 use Rattle.ht_tree.specs.declared.token.Assign3.{Assign3}
-use Rattle.ht_tree.specs.Walks.{Node, decide, under, path_of}
+use Rattle.ht_tree.specs.Walk.Walks.{Node, decide, under, path_of}
 use Rattle.ht_search.specs.Routes.{MovesOn}
 use Rattle.ht_search.specs.WindowSteps.{Step, Decides, Enters, node_of, windows_entered, last_decided, point_of, route_of, steps_of, steps_above, steps_under}
 use Rattle.ht_search.proofs.RouteLaws.{point_by}

@@ -2,7 +2,7 @@
 use Rattle.std.specs.Prelude.{◌≡◌, ℕ, Bool, false, ◌||◌, IsTrue}
 use Rattle.ht_tern.specs.declared.tern.Tern.{Tern}
 use Rattle.ht_tern.specs.declared.tern.Tern.TheVariants.{Zero, One, Unk}
-use Rattle.ht_tree.specs.Walks.{Node, Judge, decides, path_of}
+use Rattle.ht_tree.specs.Walk.Walks.{Node, Judge, decides, path_of}
 
 -- a variable may get 0 or 1 where `Two` or `Three` decides it, and X where `Three` does
 abbrev pub is_decidable : Judge → Node → ℕ → Tern → Bool

@@ -1,7 +1,7 @@
 -- What a search answers.
 use Rattle.std.specs.Prelude.{ℕ}
-use Rattle.ht_tree.specs.Walks.{Node}
-use Rattle.ht_tree.specs.Searches.{Guide, FindsAt, Closes, SpendsAt}
+use Rattle.ht_tree.specs.Walk.Walks.{Node}
+use Rattle.ht_tree.specs.Walk.Searches.{Guide, FindsAt, Closes, SpendsAt}
 use Rattle.ht_search.specs.declared.outcome.Outcome.{Outcome}
 use Rattle.ht_search.specs.declared.outcome.Outcome.TheVariants.{Found, Closed, Spent}
 

@@ -1,7 +1,7 @@
 -- A search so far, and what one step makes of it.
 use Rattle.std.specs.Prelude.{◌≡◌, ◌<◌, ◌+◌, ℕ, List, [], ◌∷◌, length, reverse}
-use Rattle.ht_tree.specs.Walks.{Node, Judge, AllFit, decide, root_stack, stack_after}
-use Rattle.ht_tree.specs.Searches.{Guide, AllChosen, IsFound}
+use Rattle.ht_tree.specs.Walk.Walks.{Node, Judge, AllFit, decide, root_stack, stack_after}
+use Rattle.ht_tree.specs.Walk.Searches.{Guide, AllChosen, IsFound}
 use Rattle.ht_search.specs.declared.problem.Point.{Point}
 use Rattle.ht_search.specs.declared.progress.Untried.{Untried}
 use Rattle.ht_search.specs.declared.progress.SearchProgress.{SearchProgress}

@@ -1,6 +1,6 @@
 -- Where a problem stands, and the points to which it can go back.
 use Rattle.std.specs.Prelude.{◌≡◌, ◌≢◌, List, [], ◌∷◌, Bool, ◌&&◌, ◌==◌, if◌then◌else◌}
-use Rattle.ht_tree.specs.Walks.{Node}
+use Rattle.ht_tree.specs.Walk.Walks.{Node}
 use Rattle.ht_search.specs.declared.problem.Point.{Point}
 
 -- a node on the way, and the point that stands for it

@@ -1,7 +1,7 @@
 -- The route of a problem that keeps the decisions of each window, one window under the other.
 use Rattle.std.specs.Prelude.{◌+◌, ℕ, List, [], ◌∷◌, ◌++◌, map, reverse}
 use Rattle.ht_tree.specs.declared.token.Assign3.{Assign3}
-use Rattle.ht_tree.specs.Walks.{Node, root, decide, under}
+use Rattle.ht_tree.specs.Walk.Walks.{Node, root, decide, under}
 use Rattle.ht_search.specs.declared.problem.Point.{Point}
 use Rattle.ht_search.specs.Routes.{Stop, Route}
 

@@ -1,7 +1,7 @@
 //! The search over a problem, and how it ends.
 ghost use Rattle.std.specs.Prelude.{◌≡◌, ◌<◌, ◌*◌, ◌≤◌, ℕ, OnOk, IfOk};
-ghost use Rattle.ht_tree.specs.Walks.{Node, root};
-ghost use Rattle.ht_tree.specs.Counts.{Measures, most_tokens};
+ghost use Rattle.ht_tree.specs.Walk.Walks.{Node, root};
+ghost use Rattle.ht_tree.specs.Walk.Counts.{Measures, most_tokens};
 ghost use Rattle.ht_search.specs.Routes.{back_to, stops};
 ghost use Rattle.ht_search.specs.Outcomes.{IsClosed, IsOutcome, IsSpent};
 

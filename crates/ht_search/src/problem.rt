@@ -1,7 +1,7 @@
 //! What is searched.
 ghost use Rattle.std.specs.Prelude.{◌≡◌, ◌<◌, ℕ, true, false, length, OnOk, OnErr, IfOk, IsTrue};
-ghost use Rattle.ht_tree.specs.Walks.{Fits, Node, decide, under};
-ghost use Rattle.ht_tree.specs.Searches.{Guide, deciding_token};
+ghost use Rattle.ht_tree.specs.Walk.Walks.{Fits, Node, decide, under};
+ghost use Rattle.ht_tree.specs.Walk.Searches.{Guide, deciding_token};
 ghost use Rattle.ht_search.specs.Legal.{MayDecide};
 ghost use Rattle.ht_search.specs.Routes.{MovesOn, Route, Stands, back_to, stops};
 

@@ -8,8 +8,8 @@ use Rattle.ht_tern.specs.declared.tern.Tern.TheVariants.{Zero, Unk}
 use Rattle.ht_tern.specs.Opposite.{Opposite}
 use Rattle.ht_net.specs.declared.fault.Fault.{Fault}
 use Rattle.ht_net.specs.declared.place.Place.{Place}
-use Rattle.ht_net.specs.Netlist.{Netlist}
-use Rattle.ht_net.specs.Detection.{IsBefore, output_from, outputs_from, tern_outputs}
+use Rattle.ht_net.specs.Circuit.Netlist.{Netlist}
+use Rattle.ht_net.specs.Detect.Detection.{IsBefore, output_from, outputs_from, tern_outputs}
 use Rattle.ht_net.proofs.FrameLaws.{le_or_lt}
 use Rattle.ht_serial.specs.Contradictions.{Contradicts}
 use Rattle.ht_serial.specs.Opposites.{IsFirstOpposite}

@@ -4,10 +4,10 @@ use Rattle.std.specs.List.{All}
 use Rattle.std.proofs.lemmas.List.{get_or-map, take_more, length-map}
 use Rattle.ht_tern.specs.declared.tern.Tern.{Tern}
 use Rattle.ht_net.specs.declared.fault.Fault.{Fault}
-use Rattle.ht_net.specs.Netlist.{Netlist}
-use Rattle.ht_net.specs.Frame.{run_state}
-use Rattle.ht_net.specs.Faults.{tern_rules}
-use Rattle.ht_net.specs.Detection.{terns_of, outputs_from}
+use Rattle.ht_net.specs.Circuit.Netlist.{Netlist}
+use Rattle.ht_net.specs.Frames.Frame.{run_state}
+use Rattle.ht_net.specs.Frames.Faults.{tern_rules}
+use Rattle.ht_net.specs.Detect.Detection.{terns_of, outputs_from}
 use Rattle.ht_serial.specs.MachineState.{MachineState, stepped, after_run}
 use Rattle.ht_serial.specs.ObservationView.{ObservationView}
 use Rattle.ht_serial.proofs.RunLaws.{frame_width, run_length, run_output_at, step_is_run}

@@ -6,9 +6,9 @@ use Rattle.ht_tern.specs.declared.tern.Tern.TheVariants.{Unk}
 use Rattle.ht_tern.specs.Opposite.{Opposite}
 use Rattle.ht_net.specs.declared.fault.Fault.{Fault}
 use Rattle.ht_net.specs.declared.place.Place.{Place}
-use Rattle.ht_net.specs.Netlist.{Netlist}
-use Rattle.ht_net.specs.Rows.{Rows}
-use Rattle.ht_net.specs.Detection.{output_at, IsBefore}
+use Rattle.ht_net.specs.Circuit.Netlist.{Netlist}
+use Rattle.ht_net.specs.Frames.Rows.{Rows}
+use Rattle.ht_net.specs.Detect.Detection.{output_at, IsBefore}
 use Rattle.ht_serial.specs.ObservationView.{ObservationView}
 
 -- what was observed at output o of vector t

@@ -1,7 +1,7 @@
 //! The first contradiction of one machine with an observation.
 ghost use Rattle.std.specs.Prelude.{◌≡◌, length, IfOk};
 ghost use Rattle.std.specs.Option.{ForSome};
-ghost use Rattle.ht_net.specs.Detection.{IsPlace};
+ghost use Rattle.ht_net.specs.Detect.Detection.{IsPlace};
 ghost use Rattle.ht_serial.specs.Contradictions.{IsFirstContradiction, IsObservedOver};
 ghost use Rattle.ht_serial.specs.Opposites.{IsFirstOpposite};
 

@@ -1,6 +1,6 @@
 //! What one machine shows over a list of vectors.
 ghost use Rattle.std.specs.Prelude.{◌≡◌, length, IfOk};
-ghost use Rattle.ht_net.specs.Detection.{IsStart, outputs_from};
+ghost use Rattle.ht_net.specs.Detect.Detection.{IsStart, outputs_from};
 
 use crate::machine::Machine;
 use crate::observation::Observation;

@@ -1,8 +1,8 @@
 -- Arguments in a text, one by one.
 use Rattle.std.proofs.Common.{◌≡◌, ◌⊎◌, inl, inr, ℕ, zero, suc, ◌+◌, ◌<◌, List, [], ◌∷◌, ◌++◌, length, get_or, take, map, codes, append_assoc, append-nil, refl, sym, ap, ◌∙◌, arith}
 use Rattle.ht_net.specs.declared.net.NetId.{NetId}
-use Rattle.ht_net.specs.Netlist.{Netlist, no_net}
-use Rattle.ht_net.specs.Named.{Name, name_of}
+use Rattle.ht_net.specs.Circuit.Netlist.{Netlist, no_net}
+use Rattle.ht_net.specs.Build.Named.{Name, name_of}
 use Rattle.std.proofs.lemmas.List.{map_more}
 use Rattle.ht_statement.specs.StatementText.{arguments_text}
 

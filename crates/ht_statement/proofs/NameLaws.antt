@@ -5,7 +5,7 @@ use Rattle.std.proofs.lemmas.Bool.{and_parts}
 use Rattle.std.proofs.lemmas.Bool.Decides.{nat_tests}
 use Rattle.ht_tern.specs.declared.gate.Kind.{Kind}
 use Rattle.ht_tern.specs.declared.gate.Kind.TheVariants.{And, Nand, Or, Nor, Xor, Xnor, Not, Buf}
-use Rattle.ht_net.specs.Named.{Name}
+use Rattle.ht_net.specs.Build.Named.{Name}
 use Rattle.ht_statement.specs.LineToken.{word_token, tokens_of}
 use Rattle.ht_statement.specs.Word.{is_word_byte, BeginsNoWord}
 use Rattle.ht_statement.specs.Name.{is_name, is_name_byte}

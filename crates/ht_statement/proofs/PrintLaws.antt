@@ -4,7 +4,7 @@ use Rattle.std.specs.List.{list_all}
 use Rattle.std.proofs.lemmas.Bool.{and_parts, and_from}
 use Rattle.std.proofs.lemmas.Bool.Decides.{nat_tests}
 use Rattle.std.proofs.lemmas.List.Folds.{list_all-append}
-use Rattle.ht_net.specs.Named.{Name}
+use Rattle.ht_net.specs.Build.Named.{Name}
 use Rattle.ht_statement.specs.Name.{is_name, is_name_byte}
 use Rattle.ht_statement.specs.Statement.{blank_line, input_line, output_line, dff_line, gate_line}
 use Rattle.ht_statement.specs.StatementText.{kind_text, arguments_text, is_printable, NormalTextIsOneLine}

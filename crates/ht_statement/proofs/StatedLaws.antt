@@ -5,8 +5,8 @@ use Rattle.std.proofs.lemmas.Bool.{and_parts, and_from, leb-true, le-leb}
 use Rattle.std.proofs.lemmas.Bool.Decides.{nat_tests}
 use Rattle.ht_tern.specs.Gate.{HasArity, has_arity}
 use Rattle.ht_tern.specs.declared.gate.Kind.{Kind}
-use Rattle.ht_net.specs.Named.{Name}
-use Rattle.ht_net.specs.Netlist.{max_arguments}
+use Rattle.ht_net.specs.Build.Named.{Name}
+use Rattle.ht_net.specs.Circuit.Netlist.{max_arguments}
 use Rattle.ht_statement.specs.LineToken.{tokens_of}
 use Rattle.ht_statement.specs.Name.{is_name}
 use Rattle.ht_statement.specs.LineForm.{LineForm, blank_form, input_form, output_form, definition_form, form_of}

@@ -3,7 +3,7 @@ use Rattle.std.proofs.Common.{◌≡◌, ℕ, true, List, [], ◌∷◌, ◌++�
 use Rattle.std.proofs.lemmas.Bool.{cond-true}
 use Rattle.std.specs.List.{list_all}
 use Rattle.ht_tern.specs.declared.gate.Kind.{Kind}
-use Rattle.ht_net.specs.Named.{Name}
+use Rattle.ht_net.specs.Build.Named.{Name}
 use Rattle.ht_statement.specs.LineToken.{LineToken, word_token, open_token, close_token, comma_token, equals_token, tokens_of}
 use Rattle.ht_statement.specs.Name.{is_name}
 use Rattle.ht_statement.specs.LineForm.{definition_form, form_of, arguments_of, further_arguments}

@@ -5,7 +5,7 @@ use Rattle.std.specs.Str.{str_eq_ignore_ascii_case}
 use Rattle.ht_tern.specs.Gate.{has_arity}
 use Rattle.ht_tern.specs.declared.gate.Kind.{Kind}
 use Rattle.ht_tern.specs.declared.gate.Kind.TheVariants.{And, Nand, Or, Nor, Xor, Xnor, Not, Buf}
-use Rattle.ht_net.specs.Netlist.{max_arguments}
+use Rattle.ht_net.specs.Circuit.Netlist.{max_arguments}
 
 -- a flip-flop, or a gate of a kind
 pub data Element : Type 0 where

@@ -1,7 +1,7 @@
 -- Names of nets (ISCAS-89 format).
 use Rattle.std.specs.Prelude.{ℕ, Bool, ◌&&◌, ◌||◌, not, eqb, leb, length}
 use Rattle.std.specs.List.{list_all}
-use Rattle.ht_net.specs.Named.{Name}
+use Rattle.ht_net.specs.Build.Named.{Name}
 
 -- one of `#`, `(`, `)`, `,` and `=`, which end a word as a blank does
 abbrev pub ends_word : ℕ → Bool

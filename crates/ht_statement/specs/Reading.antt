@@ -1,7 +1,7 @@
 -- What a line states, or why it is refused (ISCAS-89 format).
 use Rattle.std.specs.Prelude.{◌≡◌, ℕ, List, [], ◌∷◌, cond, length, get_or, Option, Some, None}
 use Rattle.std.specs.List.{list_all}
-use Rattle.ht_net.specs.Named.{Name}
+use Rattle.ht_net.specs.Build.Named.{Name}
 use Rattle.ht_statement.specs.LineToken.{tokens_of}
 use Rattle.ht_statement.specs.LineForm.{LineForm, blank_form, input_form, output_form, definition_form, form_of}
 use Rattle.ht_statement.specs.Name.{is_name}

@@ -1,7 +1,7 @@
 -- What a line of a netlist states (ISCAS-89 format).
 use Rattle.std.specs.Prelude.{List, [], ◌∷◌}
 use Rattle.ht_tern.specs.declared.gate.Kind.{Kind}
-use Rattle.ht_net.specs.Named.{Name}
+use Rattle.ht_net.specs.Build.Named.{Name}
 
 -- nothing; an input; an output; a flip-flop's net and the net at its data pin; a gate's net, its kind and its arguments
 pub data Statement : Type 0 where

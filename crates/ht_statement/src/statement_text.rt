@@ -1,8 +1,8 @@
 //! The text of a statement: the line that a writer gives for it.
 ghost use Rattle.std.specs.Prelude.{◌≡◌, ◌<◌, ◌++◌, map, codes, All, OnOk};
 ghost use Rattle.ht_net.specs.declared.net.NetId.{NetId};
-ghost use Rattle.ht_net.specs.Netlist.{net_count};
-ghost use Rattle.ht_net.specs.Named.{name_of};
+ghost use Rattle.ht_net.specs.Circuit.Netlist.{net_count};
+ghost use Rattle.ht_net.specs.Build.Named.{name_of};
 ghost use Rattle.ht_statement.specs.Statement.{input_line, output_line, dff_line, gate_line};
 ghost use Rattle.ht_statement.specs.StatementText.{kind_text, arguments_text, statement_line};
 

@@ -2,9 +2,9 @@
 use Rattle.std.proofs.Common.{◌≡◌, ◌<◌, ◌+◌, ◌∙◌, ℕ, List, None, get_or, refl, sym, ap, arith}
 use Rattle.ht_tern.specs.declared.tern.Tern.{Tern}
 use Rattle.ht_net.specs.declared.net.NetId.{NetId}
-use Rattle.ht_net.specs.Netlist.{Netlist, first_gate_net, net_count, gate_at, no_net, IsCircuit}
-use Rattle.ht_net.specs.Frame.{gate_output, net_value}
-use Rattle.ht_net.specs.Faults.{forced, tern_rules}
+use Rattle.ht_net.specs.Circuit.Netlist.{Netlist, first_gate_net, net_count, gate_at, no_net, IsCircuit}
+use Rattle.ht_net.specs.Frames.Frame.{gate_output, net_value}
+use Rattle.ht_net.specs.Frames.Faults.{forced, tern_rules}
 use Rattle.ht_net.proofs.FrameLaws.{gate_same}
 use Rattle.ht_stems.specs.declared.arrival.Arrival.{Arrival}
 use Rattle.ht_stems.specs.declared.arrival.Arrival.TheVariants.{AtLatch, AtOutput}

@@ -7,8 +7,8 @@ use Rattle.std.specs.List.{sum_by}
 use Rattle.std.proofs.lemmas.List.{take_all}
 use Rattle.std.proofs.lemmas.List.Sums.{count_by_more_yes, count_by_more_no, sum_by_more}
 use Rattle.ht_net.specs.declared.net.NetId.{NetId}
-use Rattle.ht_net.specs.Netlist.{Netlist, Gate, gate_at, net_count, no_gate, no_net}
-use Rattle.ht_net.specs.Levels.{times}
+use Rattle.ht_net.specs.Circuit.Netlist.{Netlist, Gate, gate_at, net_count, no_gate, no_net}
+use Rattle.ht_net.specs.Circuit.Levels.{times}
 use Rattle.ht_stems.specs.declared.net_loads.NetLoads.{NetLoads}
 use Rattle.ht_stems.specs.declared.net_loads.NetLoads.TheVariants.{NoLoad, OneGate, OneDataPin, OneOutput, Several}
 use Rattle.ht_stems.specs.LoadsOfNets.{CountsAs, CountsMore, HasEntries, HasLoads, with_load}

@@ -2,8 +2,8 @@
 use Rattle.std.proofs.Common.{◌≡◌, ◌≢◌, ◌<◌, ◌≤◌, ◌+◌, ◌∙◌, ℕ, suc, zero, List, [], ◌∷◌, length, get_or, set, refl, sym, ap, arith}
 use Rattle.ht_tern.specs.declared.tern.Tern.{Tern}
 use Rattle.ht_net.specs.declared.net.NetId.{NetId}
-use Rattle.ht_net.specs.Netlist.{Netlist, net_count, no_net, IsCircuit}
-use Rattle.ht_net.specs.Frame.{Rules, values_at, data_values, net_value, frame_outputs, next_state}
+use Rattle.ht_net.specs.Circuit.Netlist.{Netlist, net_count, no_net, IsCircuit}
+use Rattle.ht_net.specs.Frames.Frame.{Rules, values_at, data_values, net_value, frame_outputs, next_state}
 use Rattle.ht_net.proofs.ValueLaws.{seen_same}
 use Rattle.ht_stems.specs.ArrivedFrames.{ShowSame}
 

@@ -7,8 +7,8 @@ use Rattle.std.proofs.lemmas.Bool.Decides.{eqb_tells}
 use Rattle.std.proofs.lemmas.List.{get_or-take, length-take-le}
 use Rattle.std.proofs.lemmas.List.Sums.{get_or-le-sum_by, sum_by-cons, sum_by_more_le}
 use Rattle.ht_net.specs.declared.net.NetId.{NetId}
-use Rattle.ht_net.specs.Netlist.{Netlist, Gate, gate_at, arg_at, no_gate, no_net}
-use Rattle.ht_net.specs.Levels.{times}
+use Rattle.ht_net.specs.Circuit.Netlist.{Netlist, Gate, gate_at, arg_at, no_gate, no_net}
+use Rattle.ht_net.specs.Circuit.Levels.{times}
 use Rattle.ht_net.proofs.FrameLaws.{le_or_lt}
 use Rattle.ht_stems.specs.declared.net_loads.NetLoads.TheVariants.{NoLoad, OneGate, OneDataPin, OneOutput}
 use Rattle.ht_stems.specs.LoadsOfNets.{HasLoads}

@@ -8,9 +8,9 @@ use Rattle.ht_net.specs.declared.net.NetId.{NetId}
 use Rattle.ht_net.specs.declared.fault.Site.{Site}
 use Rattle.ht_net.specs.declared.fault.Site.TheVariants.{GatePin, Stem}
 use Rattle.ht_net.specs.declared.fault.Fault.{Fault}
-use Rattle.ht_net.specs.Netlist.{first_gate_net, net_count, max_arguments, IsCircuit}
-use Rattle.ht_net.specs.Frame.{gate_output}
-use Rattle.ht_net.specs.Faults.{tern_rules}
+use Rattle.ht_net.specs.Circuit.Netlist.{first_gate_net, net_count, max_arguments, IsCircuit}
+use Rattle.ht_net.specs.Frames.Frame.{gate_output}
+use Rattle.ht_net.specs.Frames.Faults.{tern_rules}
 use Rattle.ht_frame.specs.Values.{env_of}
 use Rattle.ht_stems.specs.declared.arrival.Arrival.{Arrival}
 use Rattle.ht_stems.specs.declared.arrivals.Arrivals.TheInside.{Inside}

@@ -5,9 +5,9 @@ use Rattle.ht_tern.specs.Gate.{tern_of}
 use Rattle.ht_net.specs.declared.fault.Site.{Site}
 use Rattle.ht_net.specs.declared.fault.Site.TheVariants.{Stem, DffPin, GatePin}
 use Rattle.ht_net.specs.declared.fault.Fault.{Fault}
-use Rattle.ht_net.specs.Netlist.{Netlist, first_gate_net, net_count}
-use Rattle.ht_net.specs.Frame.{gate_output}
-use Rattle.ht_net.specs.Faults.{tern_rules}
+use Rattle.ht_net.specs.Circuit.Netlist.{Netlist, first_gate_net, net_count}
+use Rattle.ht_net.specs.Frames.Frame.{gate_output}
+use Rattle.ht_net.specs.Frames.Faults.{tern_rules}
 use Rattle.ht_stems.specs.declared.arrival.Arrival.{Arrival}
 use Rattle.ht_stems.specs.ForcedNets.{with_net_value}
 use Rattle.ht_stems.specs.Arrivals.{Arrives, unchanged, unread, at_latch, at_output, at_stem, through_gate, FaultArrives, HasLine, IsWithin, SiteArrives}

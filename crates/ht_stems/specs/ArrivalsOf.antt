@@ -1,7 +1,7 @@
 -- How the fields of arrivals stand for them.
 use Rattle.std.specs.Prelude.{◌≡◌, length, get_or}
 use Rattle.ht_tern.specs.declared.tern.Tern.TheVariants.{Unk}
-use Rattle.ht_net.specs.Netlist.{net_count, max_arguments, IsCircuit}
+use Rattle.ht_net.specs.Circuit.Netlist.{net_count, max_arguments, IsCircuit}
 use Rattle.ht_stems.specs.declared.arrivals.Arrivals.TheInside.{Inside}
 use Rattle.ht_stems.specs.LoadsOfNets.{AreLoads}
 use Rattle.ht_stems.specs.NetEnds.{AreTableEnds}

@@ -2,7 +2,7 @@
 use Rattle.std.specs.Prelude.{ℕ, List, get_or}
 use Rattle.ht_tern.specs.declared.tern.Tern.{Tern}
 use Rattle.ht_tern.specs.declared.tern.Tern.TheVariants.{Unk}
-use Rattle.ht_net.specs.Netlist.{Netlist}
+use Rattle.ht_net.specs.Circuit.Netlist.{Netlist}
 
 -- a circuit, and the values of its nets from which effects go on
 pub record ArrivalsView : Type 0 where

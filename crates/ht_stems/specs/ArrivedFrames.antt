@@ -1,9 +1,9 @@
 -- What a frame shows by where an effect ends.
 use Rattle.std.specs.Prelude.{◌≡◌, ◌<◌, ℕ, List, None, set}
 use Rattle.ht_tern.specs.declared.tern.Tern.{Tern}
-use Rattle.ht_net.specs.Netlist.{Netlist, net_count}
-use Rattle.ht_net.specs.Frame.{Rules, net_value, frame_outputs, next_state}
-use Rattle.ht_net.specs.Faults.{tern_rules}
+use Rattle.ht_net.specs.Circuit.Netlist.{Netlist, net_count}
+use Rattle.ht_net.specs.Frames.Frame.{Rules, net_value, frame_outputs, next_state}
+use Rattle.ht_net.specs.Frames.Faults.{tern_rules}
 use Rattle.ht_stems.specs.declared.arrival.Arrival.{Arrival}
 use Rattle.ht_stems.specs.declared.arrival.Arrival.TheVariants.{Dies, AtLatch, AtOutput, AtStem}
 use Rattle.ht_stems.specs.ForcedNets.{net_forced}

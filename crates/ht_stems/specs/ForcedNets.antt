@@ -1,6 +1,6 @@
 -- A net that is forced to a value for one frame, whatever drives it.
 use Rattle.std.specs.Prelude.{◌==◌, ℕ, if◌then◌else◌}
-use Rattle.ht_net.specs.Frame.{Rules}
+use Rattle.ht_net.specs.Frames.Frame.{Rules}
 
 -- the rules of a machine with net x forced to v: its stem gives v, whatever it carries
 abbrev pub net_forced : {V : Type 0} → Rules V → ℕ → V → Rules V

@@ -1,8 +1,8 @@
 -- What reads a net: nothing, only one pin or output, or more.
 use Rattle.std.specs.Prelude.{◌≡◌, ◌<◌, ◌+◌, ℕ, List, length, get_or}
 use Rattle.ht_net.specs.declared.net.NetId.{NetId}
-use Rattle.ht_net.specs.Netlist.{Netlist, IsCircuit, gate_at, net_count, no_net}
-use Rattle.ht_net.specs.Levels.{times, loads_of}
+use Rattle.ht_net.specs.Circuit.Netlist.{Netlist, IsCircuit, gate_at, net_count, no_net}
+use Rattle.ht_net.specs.Circuit.Levels.{times, loads_of}
 use Rattle.ht_stems.specs.declared.net_loads.NetLoads.{NetLoads}
 use Rattle.ht_stems.specs.declared.net_loads.NetLoads.TheVariants.{NoLoad, OneGate, OneDataPin, OneOutput, Several}
 

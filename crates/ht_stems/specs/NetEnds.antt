@@ -2,7 +2,7 @@
 use Rattle.std.specs.Prelude.{◌≡◌, ◌<◌, ◌+◌, ℕ, List, length, get_or}
 use Rattle.ht_tern.specs.declared.tern.Tern.{Tern}
 use Rattle.ht_tern.specs.declared.tern.Tern.TheVariants.{Zero, One, Unk}
-use Rattle.ht_net.specs.Netlist.{Netlist, first_gate_net, max_arguments, net_count}
+use Rattle.ht_net.specs.Circuit.Netlist.{Netlist, first_gate_net, max_arguments, net_count}
 use Rattle.ht_stems.specs.declared.arrival.Arrival.{Arrival}
 use Rattle.ht_stems.specs.declared.arrival.Arrival.TheVariants.{Dies}
 use Rattle.ht_stems.specs.declared.net_ends.NetEnds.{NetEnds}

@@ -1,8 +1,8 @@
 //! Where the effects of all nets and faults end in a frame.
 ghost use Rattle.std.specs.Prelude.{◌≡◌, ◌↔◌, ◌<◌, List, None, Some, IsTrue, length, IfOk};
 ghost use Rattle.ht_tern.specs.declared.tern.Tern as tern;
-ghost use Rattle.ht_net.specs.Netlist.{net_count, IsCircuit};
-ghost use Rattle.ht_net.specs.Faults.{tern_rules};
+ghost use Rattle.ht_net.specs.Circuit.Netlist.{net_count, IsCircuit};
+ghost use Rattle.ht_net.specs.Frames.Faults.{tern_rules};
 ghost use Rattle.ht_stems.specs.ForcedNets.{net_forced};
 ghost use Rattle.ht_stems.specs.Arrivals.{Arrives, FaultArrives, HasLine, IsStuckAlready, IsWithin, SiteArrives, net_of_line};
 ghost use Rattle.ht_stems.specs.ArrivedFrames.{AreGoodValues, ShowsArrival};

@@ -1,8 +1,8 @@
 //! What reads each net.
 ghost use Rattle.std.specs.Prelude.{◌≡◌, ◌<◌, ℕ, length, get_or, set, IfOk};
 ghost use Rattle.std.specs.List.{sum_by};
-ghost use Rattle.ht_net.specs.Netlist.{Gate, gate_at};
-ghost use Rattle.ht_net.specs.Levels.{times};
+ghost use Rattle.ht_net.specs.Circuit.Netlist.{Gate, gate_at};
+ghost use Rattle.ht_net.specs.Circuit.Levels.{times};
 ghost use Rattle.ht_stems.specs.declared.net_loads.NetLoads.TheVariants.{NoLoad};
 ghost use Rattle.ht_stems.specs.LoadsOfNets.{AreLoads, CountsAs, CountsMore, HasEntries, HasLoads, with_load};
 

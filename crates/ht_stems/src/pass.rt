@@ -1,9 +1,9 @@
 //! One pass back over the nets of a frame.
 ghost use Rattle.std.specs.Prelude.{◌≡◌, ◌↔◌, ◌<◌, ◌+◌, ℕ, None, IsTrue, length, get_or};
 ghost use Rattle.ht_tern.specs.declared.tern.Tern.TheVariants.{Unk};
-ghost use Rattle.ht_net.specs.Netlist.{first_gate_net, net_count};
-ghost use Rattle.ht_net.specs.Frame.{gate_output};
-ghost use Rattle.ht_net.specs.Faults.{tern_rules};
+ghost use Rattle.ht_net.specs.Circuit.Netlist.{first_gate_net, net_count};
+ghost use Rattle.ht_net.specs.Frames.Frame.{gate_output};
+ghost use Rattle.ht_net.specs.Frames.Faults.{tern_rules};
 ghost use Rattle.ht_frame.specs.Values.{env_of};
 ghost use Rattle.ht_stems.specs.ForcedNets.{with_net_value};
 ghost use Rattle.ht_stems.specs.Arrivals.{Arrives};

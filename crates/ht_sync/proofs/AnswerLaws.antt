@@ -1,12 +1,12 @@
 -- What the answers of the search for a list that synchronizes mean.
 use Rattle.std.proofs.Common.{◌≡◌, ◌<◌, ◌≤◌, ◌+◌, ◌-◌, ℕ, List, [], ◌∷◌, Bool, length, get_or, sym, ◌∙◌, ap, arith, subst}
-use Rattle.ht_net.specs.Netlist.{Netlist}
-use Rattle.ht_net.specs.Rows.{Rows}
-use Rattle.ht_tree.specs.Budgets.{sweep_cost}
-use Rattle.ht_tree.specs.FoundLists.{list_of}
-use Rattle.ht_tree.specs.Reached.{AreVectors}
-use Rattle.ht_tree.specs.Searches.{node_at}
-use Rattle.ht_tree.specs.Walks.{IsComplete}
+use Rattle.ht_net.specs.Circuit.Netlist.{Netlist}
+use Rattle.ht_net.specs.Frames.Rows.{Rows}
+use Rattle.ht_tree.specs.Walk.Budgets.{sweep_cost}
+use Rattle.ht_tree.specs.Walk.FoundLists.{list_of}
+use Rattle.ht_tree.specs.Record.Reached.{AreVectors}
+use Rattle.ht_tree.specs.Walk.Searches.{node_at}
+use Rattle.ht_tree.specs.Walk.Walks.{IsComplete}
 use Rattle.ht_tree.specs.declared.token.Token.{Token}
 use Rattle.ht_records.proofs.SureLaws.{list_length}
 use Rattle.ht_records.proofs.WindowVectorLaws.{list_wide}

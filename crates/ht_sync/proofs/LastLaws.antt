@@ -8,13 +8,13 @@ use Rattle.ht_tern.specs.declared.tern.Tern.{Tern}
 use Rattle.ht_tern.specs.declared.tern.Tern.TheVariants.{One, Unk, Zero}
 use Rattle.ht_pairs.specs.Pairs.{IsMember, Pair, pair}
 use Rattle.ht_pairs.proofs.SetLaws.{is_member-from, is_member-true}
-use Rattle.ht_net.specs.Faults.{is_data_pin}
-use Rattle.ht_net.specs.Frame.{next_state}
-use Rattle.ht_net.specs.Netlist.{no_net}
+use Rattle.ht_net.specs.Frames.Faults.{is_data_pin}
+use Rattle.ht_net.specs.Frames.Frame.{next_state}
+use Rattle.ht_net.specs.Circuit.Netlist.{no_net}
 use Rattle.ht_net.proofs.ValueLaws.{taken_get}
-use Rattle.ht_tree.specs.Places.{set_at, spot_net}
-use Rattle.ht_tree.specs.WindowStatus.{is_definite}
-use Rattle.ht_tree.specs.Windows.{SearchWindow, cell_at, is_undetermined, latches_at, pair_set_rules}
+use Rattle.ht_tree.specs.Window.Places.{set_at, spot_net}
+use Rattle.ht_tree.specs.Window.WindowStatus.{is_definite}
+use Rattle.ht_tree.specs.Window.Windows.{SearchWindow, cell_at, is_undetermined, latches_at, pair_set_rules}
 use Rattle.ht_tree.specs.declared.token.Assign3.{Assign3}
 use Rattle.ht_tree.specs.declared.token.Status3.TheVariants.{Dead, Open, Sure}
 use Rattle.ht_tree.specs.declared.window.Spot.TheVariants.{State}

@@ -2,7 +2,7 @@
 use Rattle.std.specs.List.{find, list_any, range_with_len}
 use Rattle.std.proofs.Common.{◌≡◌, ◌<◌, ◌+◌, ◌-◌, ℕ, suc, List, ◌∷◌, Bool, true, false, not, ◌&&◌, ◌||◌, cond, Some, length, refl, sym, ◌∙◌, ap, arith}
 use Rattle.ht_pairs.specs.Pairs.{Pair}
-use Rattle.ht_tree.specs.Windows.{SearchWindow, is_undetermined}
+use Rattle.ht_tree.specs.Window.Windows.{SearchWindow, is_undetermined}
 use Rattle.ht_tree.specs.declared.token.Assign3.{Assign3}
 use Rattle.ht_tree.specs.declared.token.Status3.TheVariants.{Dead, Open, Sure}
 use Rattle.ht_sync.specs.SyncWindows.{flip_flops, last_set, may_be_unknown, must_be_unknown, sync_status}

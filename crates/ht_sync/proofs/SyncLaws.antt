@@ -5,21 +5,21 @@ use Rattle.ht_tern.specs.Gate.{AllRelated, Refines, StandsFor, tern_of}
 use Rattle.ht_tern.specs.declared.tern.Tern.{Tern}
 use Rattle.ht_tern.specs.declared.tern.Tern.TheVariants.{One, Unk, Zero}
 use Rattle.ht_pairs.specs.Pairs.{IsMember, Pair, pair}
-use Rattle.ht_net.specs.Detection.{terns_of, unknown_state}
-use Rattle.ht_net.specs.Faults.{bool_rules, tern_rules}
-use Rattle.ht_net.specs.Frame.{next_state, run_state}
-use Rattle.ht_net.specs.Netlist.{Netlist}
+use Rattle.ht_net.specs.Detect.Detection.{terns_of, unknown_state}
+use Rattle.ht_net.specs.Frames.Faults.{bool_rules, tern_rules}
+use Rattle.ht_net.specs.Frames.Frame.{next_state, run_state}
+use Rattle.ht_net.specs.Circuit.Netlist.{Netlist}
 use Rattle.ht_net.proofs.FaultLaws.{machine_bits}
 use Rattle.ht_net.proofs.RelationLaws.{next_related}
-use Rattle.ht_tree.specs.FoundLists.{list_of}
-use Rattle.ht_tree.specs.Places.{set_at}
-use Rattle.ht_tree.specs.Reached.{AreVectors}
-use Rattle.ht_tree.specs.Searches.{FindsAt}
-use Rattle.ht_tree.specs.Variables.{may_two}
-use Rattle.ht_tree.specs.Walks.{IsComplete, Node, path_of}
-use Rattle.ht_tree.specs.WindowStatus.{is_definite}
-use Rattle.ht_tree.specs.WalkBack.{wants_one}
-use Rattle.ht_tree.specs.Windows.{SearchWindow}
+use Rattle.ht_tree.specs.Walk.FoundLists.{list_of}
+use Rattle.ht_tree.specs.Window.Places.{set_at}
+use Rattle.ht_tree.specs.Record.Reached.{AreVectors}
+use Rattle.ht_tree.specs.Walk.Searches.{FindsAt}
+use Rattle.ht_tree.specs.Window.Variables.{may_two}
+use Rattle.ht_tree.specs.Walk.Walks.{IsComplete, Node, path_of}
+use Rattle.ht_tree.specs.Window.WindowStatus.{is_definite}
+use Rattle.ht_tree.specs.Window.WalkBack.{wants_one}
+use Rattle.ht_tree.specs.Window.Windows.{SearchWindow}
 use Rattle.ht_tree.specs.declared.token.Assign3.{Assign3}
 use Rattle.ht_tree.specs.declared.token.Status3.TheVariants.{Dead, Sure}
 use Rattle.ht_tree.specs.declared.token.Token.{Token}

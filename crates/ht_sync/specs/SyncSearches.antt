@@ -1,15 +1,15 @@
 -- What the search for a shortest list that synchronizes answers, and what that means.
 use Rattle.std.specs.Prelude.{◌≡◌, ◌<◌, ◌≤◌, ◌+◌, ◌-◌, ℕ, List, [], Bool, length, get_or}
-use Rattle.ht_net.specs.Netlist.{Netlist}
-use Rattle.ht_net.specs.Rows.{Rows}
+use Rattle.ht_net.specs.Circuit.Netlist.{Netlist}
+use Rattle.ht_net.specs.Frames.Rows.{Rows}
 use Rattle.ht_events.specs.Plans.{max_frames}
 use Rattle.ht_tree.specs.declared.token.Assign3.{Assign3}
 use Rattle.ht_tree.specs.declared.token.Token.{Token}
-use Rattle.ht_tree.specs.Budgets.{sweep_cost}
-use Rattle.ht_tree.specs.FoundLists.{list_of}
-use Rattle.ht_tree.specs.Reached.{AreVectors}
-use Rattle.ht_tree.specs.Searches.{FindsAt, node_at}
-use Rattle.ht_tree.specs.Walks.{IsComplete}
+use Rattle.ht_tree.specs.Walk.Budgets.{sweep_cost}
+use Rattle.ht_tree.specs.Walk.FoundLists.{list_of}
+use Rattle.ht_tree.specs.Record.Reached.{AreVectors}
+use Rattle.ht_tree.specs.Walk.Searches.{FindsAt, node_at}
+use Rattle.ht_tree.specs.Walk.Walks.{IsComplete}
 use Rattle.ht_forward.specs.LengthAnswers.{FindsAfter}
 use Rattle.ht_forward.specs.Lengths.{IsLengthRecord, SpendEach}
 use Rattle.ht_sync.specs.Synchronizing.{EndsEachRun, Synchronizes, SynchronizesTo}

@@ -3,17 +3,17 @@ use Rattle.std.specs.Prelude.{◌-◌, ℕ, List, [], ◌∷◌, find, Bool, tru
 use Rattle.std.specs.List.{list_any, range_with_len}
 use Rattle.ht_tern.specs.declared.tern.Tern.TheVariants.{Unk}
 use Rattle.ht_pairs.specs.Pairs.{Pair, is_member, pair}
-use Rattle.ht_net.specs.Netlist.{Netlist}
+use Rattle.ht_net.specs.Circuit.Netlist.{Netlist}
 use Rattle.ht_tree.specs.declared.token.Assign3.{Assign3}
 use Rattle.ht_tree.specs.declared.token.Choice.{Choice}
 use Rattle.ht_tree.specs.declared.token.Choice.TheVariants.{Two}
 use Rattle.ht_tree.specs.declared.token.Status3.{Status3}
 use Rattle.ht_tree.specs.declared.token.Status3.TheVariants.{Dead, Sure, Open}
 use Rattle.ht_tree.specs.declared.window.Spot.TheVariants.{State}
-use Rattle.ht_tree.specs.Windows.{SearchWindow, is_undetermined, latches_at, unknown}
-use Rattle.ht_tree.specs.Places.{spot_net}
-use Rattle.ht_tree.specs.WalkBack.{walk_back}
-use Rattle.ht_tree.specs.Searches.{Guide}
+use Rattle.ht_tree.specs.Window.Windows.{SearchWindow, is_undetermined, latches_at, unknown}
+use Rattle.ht_tree.specs.Window.Places.{spot_net}
+use Rattle.ht_tree.specs.Window.WalkBack.{walk_back}
+use Rattle.ht_tree.specs.Walk.Searches.{Guide}
 use Rattle.ht_forward.specs.Goals.{Goal, goal_in, guide_to}
 
 -- the sweep window of so many frames without a fault

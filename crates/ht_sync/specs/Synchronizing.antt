@@ -2,11 +2,11 @@
 use Rattle.std.specs.Prelude.{◌≡◌, ◌<◌, ℕ, List, Bool, true, None, map, length, get_or}
 use Rattle.ht_tern.specs.declared.tern.Tern.{Tern}
 use Rattle.ht_tern.specs.declared.tern.Tern.TheVariants.{Unk}
-use Rattle.ht_net.specs.Netlist.{Netlist}
-use Rattle.ht_net.specs.Frame.{run_state}
-use Rattle.ht_net.specs.Faults.{bool_rules, tern_rules}
-use Rattle.ht_net.specs.Detection.{IsState, terns_of, unknown_state}
-use Rattle.ht_tree.specs.WindowStatus.{is_definite}
+use Rattle.ht_net.specs.Circuit.Netlist.{Netlist}
+use Rattle.ht_net.specs.Frames.Frame.{run_state}
+use Rattle.ht_net.specs.Frames.Faults.{bool_rules, tern_rules}
+use Rattle.ht_net.specs.Detect.Detection.{IsState, terns_of, unknown_state}
+use Rattle.ht_tree.specs.Window.WindowStatus.{is_definite}
 
 -- the state of the good machine after a list, from all-unknown
 abbrev pub state_after : Netlist → List (List Bool) → List Tern

@@ -1,8 +1,8 @@
 //! The state in which a list leaves the good machine.
 ghost use Rattle.std.specs.Prelude.{◌≡◌, None, IfOk, length, map};
-ghost use Rattle.ht_net.specs.Detection.{terns_of, unknown_state};
-ghost use Rattle.ht_net.specs.Faults.{tern_rules};
-ghost use Rattle.ht_tree.specs.WalkBack.{wants_one};
+ghost use Rattle.ht_net.specs.Detect.Detection.{terns_of, unknown_state};
+ghost use Rattle.ht_net.specs.Frames.Faults.{tern_rules};
+ghost use Rattle.ht_tree.specs.Window.WalkBack.{wants_one};
 ghost use Rattle.ht_serial.specs.MachineState.{after_run, started};
 ghost use Rattle.ht_sync.specs.Synchronizing.{Synchronizes, SynchronizesTo};
 

@@ -1,6 +1,6 @@
 //! The search of each length.
 ghost use Rattle.std.specs.Prelude.{◌≡◌, ◌<◌, ◌≤◌, ℕ, [], IfOk};
-ghost use Rattle.ht_tree.specs.Searches.{node_at};
+ghost use Rattle.ht_tree.specs.Walk.Searches.{node_at};
 ghost use Rattle.ht_search.specs.Outcomes.{IsOutcome};
 ghost use Rattle.ht_forward.specs.LengthAnswers.{IsOneLength};
 ghost use Rattle.ht_sync.specs.SyncSearches.{FindsSyncList};
@@ -21,7 +21,7 @@ pub struct SyncSearch<'c> {
 }
 
 impl<'c> LengthSearch for SyncSearch<'c> {
-    ghost use Rattle.ht_net.specs.Netlist.{Netlist};
+    ghost use Rattle.ht_net.specs.Circuit.Netlist.{Netlist};
     ghost use Rattle.ht_sync.specs.SyncWindows.{sync_guide};
     ghost use Rattle.ht_sync.specs.SyncSearches.{FindsSyncList};
 

@@ -3,10 +3,10 @@ ghost use Rattle.std.specs.Prelude.{◌≡◌, ◌<◌, ◌≤◌, ℕ, [], None
 ghost use Rattle.std.specs.List.{find};
 ghost use Rattle.ht_pairs.specs.Pairs.{is_member, pair};
 ghost use Rattle.ht_tern.specs.declared.tern.Tern.TheVariants.{Unk};
-ghost use Rattle.ht_tree.specs.Searches.{node_at};
-ghost use Rattle.ht_tree.specs.Walks.{Node};
-ghost use Rattle.ht_tree.specs.Windows.{is_undetermined, unknown};
-ghost use Rattle.ht_tree.specs.Variables.{IsLegalChoice};
+ghost use Rattle.ht_tree.specs.Walk.Searches.{node_at};
+ghost use Rattle.ht_tree.specs.Walk.Walks.{Node};
+ghost use Rattle.ht_tree.specs.Window.Windows.{is_undetermined, unknown};
+ghost use Rattle.ht_tree.specs.Window.Variables.{IsLegalChoice};
 ghost use Rattle.ht_search.specs.Outcomes.{IsOutcome};
 ghost use Rattle.ht_search.specs.WindowSteps.{route_of, steps_under};
 ghost use Rattle.ht_forward.specs.Goals.{guide_to};
@@ -96,7 +96,7 @@ impl<'c> SyncTrial<'c> {
 }
 
 impl<'c> Problem for SyncTrial<'c> {
-    ghost use Rattle.ht_tree.specs.Windows.{SearchWindow};
+    ghost use Rattle.ht_tree.specs.Window.Windows.{SearchWindow};
 
     ghost Subject = { SearchWindow };
 

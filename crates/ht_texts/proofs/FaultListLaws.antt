@@ -8,7 +8,7 @@ use Rattle.std.proofs.lemmas.List.{get_or_append_left, length-append, length-map
 use Rattle.std.proofs.lemmas.List.Elements.{All-append, All-cons, All-map, All-nil, All-take}
 use Rattle.std.proofs.Math.Seq.{get_or-append_seam, get_or-take, take-length}
 use Rattle.ht_ports.specs.LineRule.{lines_of}
-use Rattle.ht_tree.specs.Rising.{Rises}
+use Rattle.ht_tree.specs.Record.Rising.{Rises}
 use Rattle.ht_texts.specs.FaultListTexts.{AreFaultLines, AreSomeFaults, IsFaultListText, IsNoFaultLine, IsWrongFaultLine, IsMalformedFaultList, IsFaultListOrMalformed}
 use Rattle.ht_texts.specs.LineLengths.{IsShortLine}
 use Rattle.ht_texts.specs.Numbers.{IsNumberText}

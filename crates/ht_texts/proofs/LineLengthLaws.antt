@@ -6,8 +6,8 @@ use Rattle.std.proofs.lemmas.List.Elements.{All-take, All-weaker}
 use Rattle.std.proofs.Math.ListN.{get_or-eq_default}
 use Rattle.std.proofs.Math.Seq.{take-append_seam}
 use Rattle.ht_net.specs.declared.net.NetId.{NetId}
-use Rattle.ht_net.specs.Netlist.{Netlist, IsCircuit}
-use Rattle.ht_net.specs.Named.{name_of}
+use Rattle.ht_net.specs.Circuit.Netlist.{Netlist, IsCircuit}
+use Rattle.ht_net.specs.Build.Named.{name_of}
 use Rattle.ht_faults.specs.Classes.{AreClasses}
 use Rattle.ht_texts.specs.LineLengths.{IsShortLine}
 use Rattle.ht_texts.specs.SearchReports.{HasShortNames, IsReportFront}

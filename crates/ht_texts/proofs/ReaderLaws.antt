@@ -1,7 +1,7 @@
 -- A reader of reports after a call.
 use Rattle.std.proofs.Common.{◌≡◌, ◌≢◌, ℕ, ◌+◌, ◌<◌, ◌^◌, false, List, [], ◌∷◌, ◌++◌, Ok, Err, length, length-append, refl, sym, ap, ◌∙◌, subst, arith}
 use Rattle.std.specs.Prelude.{IsTrue}
-use Rattle.ht_net.specs.Netlist.{Netlist, IsCircuit}
+use Rattle.ht_net.specs.Circuit.Netlist.{Netlist, IsCircuit}
 use Rattle.ht_faults.specs.Sites.{faults_of, sites_of}
 use Rattle.ht_faults.proofs.ListLaws.{faults_count}
 use Rattle.ht_faults.proofs.SiteLaws.{sites_few}

@@ -14,8 +14,8 @@ use Rattle.ht_net.specs.declared.fault.Fault.{Fault}
 use Rattle.ht_net.specs.declared.fault.Site.{Site}
 use Rattle.ht_net.specs.declared.fault.Site.TheVariants.{Stem, DffPin, GatePin}
 use Rattle.ht_net.specs.declared.net.NetId.{NetId}
-use Rattle.ht_net.specs.Netlist.{Netlist, IsCircuit, first_gate_net, net_count, no_net}
-use Rattle.ht_net.specs.Named.{name_of}
+use Rattle.ht_net.specs.Circuit.Netlist.{Netlist, IsCircuit, first_gate_net, net_count, no_net}
+use Rattle.ht_net.specs.Build.Named.{name_of}
 use Rattle.ht_tree.proofs.FirstLaws.{All-range_with_len}
 use Rattle.ht_faults.specs.Sites.{faults_of}
 use Rattle.ht_faults.specs.Classes.{AreClasses, is_representative, own_representatives, class_count, fault_at}

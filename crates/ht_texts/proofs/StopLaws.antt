@@ -3,7 +3,7 @@ use Rattle.std.proofs.Common.{◌≡◌, ◌≢◌, ◌⊎◌, inl, inr, ℕ, ze
 use Rattle.std.specs.List.{All}
 use Rattle.std.proofs.lemmas.List.{length-map, get_or-map}
 use Rattle.std.proofs.lemmas.List.Elements.{All-nil, All-cons}
-use Rattle.ht_net.specs.Netlist.{Netlist}
+use Rattle.ht_net.specs.Circuit.Netlist.{Netlist}
 use Rattle.ht_ports.specs.LineRule.{lines_of}
 use Rattle.ht_texts.specs.Tests.{bit_code, IsCoded, IsTextOf, IsNoVector}
 use Rattle.ht_texts.proofs.CodedLaws.{coded_or_none}

@@ -1,6 +1,6 @@
 -- Each text is the test text of one list of vectors, or malformed at one line, and never both.
 use Rattle.std.proofs.Common.{◌≡◌, ◌⊎◌, inl, inr, ℕ, ◌+◌, List, Bool, sym, ◌∙◌, arith}
-use Rattle.ht_net.specs.Netlist.{Netlist}
+use Rattle.ht_net.specs.Circuit.Netlist.{Netlist}
 use Rattle.ht_ports.specs.LineRule.{lines_of}
 use Rattle.ht_texts.specs.Tests.{vector_text, IsNoVector, IsTestText, IsTooLong, IsMalformedTest}
 use Rattle.ht_texts.proofs.WrongLineLaws.{RightOrFirst, first_of_both, short_or_long, short_is_right}

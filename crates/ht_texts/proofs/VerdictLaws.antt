@@ -13,9 +13,9 @@ use Rattle.std.proofs.lemmas.Str.Parse.{digit_at}
 use Rattle.std.proofs.Math.Seq.{get_or-append_seam, take-append_seam, take-length, drop-append-add}
 use Rattle.ht_net.specs.declared.net.NetId.{NetId}
 use Rattle.ht_net.specs.declared.place.Place.{Place}
-use Rattle.ht_net.specs.Lists.{AllDiffer}
-use Rattle.ht_net.specs.Netlist.{Netlist, IsCircuit, no_net}
-use Rattle.ht_net.specs.Detection.{IsPlace}
+use Rattle.ht_net.specs.Circuit.Lists.{AllDiffer}
+use Rattle.ht_net.specs.Circuit.Netlist.{Netlist, IsCircuit, no_net}
+use Rattle.ht_net.specs.Detect.Detection.{IsPlace}
 use Rattle.ht_texts.specs.declared.said.Said.{Said}
 use Rattle.ht_texts.specs.declared.said.Said.TheVariants.{Detected, Untestable, Undetectable, Aborted, Undetected}
 use Rattle.ht_texts.specs.Sites.{output_text}

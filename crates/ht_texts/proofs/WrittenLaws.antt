@@ -1,7 +1,7 @@
 -- What is written is read: the text of a list of vectors is the test text of this list.
 use Rattle.std.proofs.Common.{◌≡◌, ℕ, ◌≤◌, List, Bool, true, false, length, refl}
 use Rattle.std.specs.List.{All}
-use Rattle.ht_net.specs.Netlist.{Netlist}
+use Rattle.ht_net.specs.Circuit.Netlist.{Netlist}
 use Rattle.ht_ports.specs.LineRule.{max_text_bytes}
 use Rattle.ht_texts.specs.Tests.{bit_code, test_text, IsTestText, IsMalformedTest}
 use Rattle.ht_texts.specs.SearchReports.{is_line_byte}

@@ -1,7 +1,7 @@
 -- The first wrong line of a report that is read line by line.
 use Rattle.std.proofs.Common.{inl, inr, ℕ, ◌+◌, ◌≤◌, List, length, take, arith}
 use Rattle.ht_ports.specs.LineRule.{lines_of}
-use Rattle.ht_net.specs.Netlist.{Netlist}
+use Rattle.ht_net.specs.Circuit.Netlist.{Netlist}
 use Rattle.ht_texts.specs.Tests.{IsTooLong}
 use Rattle.ht_texts.specs.SearchReports.{IsReportFront, IsNoReportLine, IsWrongReportLine, IsMalformedReport}
 use Rattle.ht_texts.proofs.ReportTextLaws.{front_of_front}

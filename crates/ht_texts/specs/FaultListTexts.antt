@@ -3,7 +3,7 @@ use Rattle.std.specs.Prelude.{◌≡◌, ◌⊎◌, ◌<◌, ◌≤◌, ℕ, Lis
 use Rattle.std.specs.Fmt.{decimal}
 use Rattle.std.specs.List.{All}
 use Rattle.ht_ports.specs.LineRule.{lines_of, max_text_bytes}
-use Rattle.ht_tree.specs.Rising.{Rises}
+use Rattle.ht_tree.specs.Record.Rising.{Rises}
 use Rattle.ht_texts.specs.Tests.{IsTooLong}
 use Rattle.ht_texts.specs.WrongLines.{IsNoNextLine, IsFirst, IsTextOrMalformed}
 

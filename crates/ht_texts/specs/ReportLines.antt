@@ -1,6 +1,6 @@
 -- One line of the report of a search, by the number of lines before it.
 use Rattle.std.specs.Prelude.{◌≡◌, ℕ, ◌+◌, ◌<◌, List, Bool, true, false, length, Option, Some, MatchOption}
-use Rattle.ht_net.specs.Netlist.{Netlist}
+use Rattle.ht_net.specs.Circuit.Netlist.{Netlist}
 use Rattle.ht_faults.specs.Sites.{faults_of}
 use Rattle.ht_faults.specs.Classes.{is_representative}
 use Rattle.ht_texts.specs.declared.item.Item.{Item}

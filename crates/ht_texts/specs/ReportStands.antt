@@ -1,6 +1,6 @@
 -- A reader of the report of a search: what it keeps, and what a call leaves. It keeps counts, and no line.
 use Rattle.std.specs.Prelude.{◌≡◌, ℕ, ◌+◌, List, [], ◌∷◌, ◌++◌, Bool, true, length, IsTrue, Some, Result, Ok, Err, IfOk, IfErr, is_ok}
-use Rattle.ht_net.specs.Netlist.{Netlist}
+use Rattle.ht_net.specs.Circuit.Netlist.{Netlist}
 use Rattle.ht_texts.specs.declared.item.Item.{Item}
 use Rattle.ht_texts.specs.declared.malformed_line.MalformedLine.{MalformedLine}
 use Rattle.ht_texts.specs.declared.said.Said.{Said}

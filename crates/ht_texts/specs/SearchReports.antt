@@ -1,7 +1,7 @@
 -- The report of a search: what it may say, which texts are one, and where a text that is none goes wrong.
 use Rattle.std.specs.Prelude.{◌≡◌, ◌==◌, ℕ, ◌+◌, ◌<◌, ◌≤◌, ◌⊎◌, List, ◌++◌, Bool, not, ◌&&◌, IsTrue, length, Some}
 use Rattle.std.specs.List.{All, list_all}
-use Rattle.ht_net.specs.Netlist.{Netlist}
+use Rattle.ht_net.specs.Circuit.Netlist.{Netlist}
 use Rattle.ht_faults.specs.Sites.{faults_of}
 use Rattle.ht_ports.specs.LineRule.{lines_of, max_text_bytes}
 use Rattle.ht_tree.specs.declared.limits.TheConstants.{MAX_BUDGET}

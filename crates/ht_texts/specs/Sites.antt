@@ -2,8 +2,8 @@
 use Rattle.std.specs.Prelude.{ℕ, ◌+◌, ◌<◌, List, [], ◌∷◌, length, get_or, codes}
 use Rattle.ht_net.specs.declared.fault.Site.{Site}
 use Rattle.ht_net.specs.declared.fault.Site.TheVariants.{Stem, DffPin, GatePin}
-use Rattle.ht_net.specs.Netlist.{Netlist, net_count, first_gate_net, gate_at, no_net}
-use Rattle.ht_net.specs.Named.{name_of}
+use Rattle.ht_net.specs.Circuit.Netlist.{Netlist, net_count, first_gate_net, gate_at, no_net}
+use Rattle.ht_net.specs.Build.Named.{name_of}
 use Rattle.ht_texts.specs.Pieces.{Piece, word, number, name}
 
 -- the site is a line of the circuit

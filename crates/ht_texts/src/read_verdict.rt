@@ -1,8 +1,8 @@
 //! What a report says of a class, read.
 ghost use Rattle.std.specs.Prelude.{◌≡◌, ◌≢◌, ◌<◌, ◌==◌, ℕ, false, length, position, MatchOption};
 ghost use Rattle.ht_net.specs.declared.place.Place.{Place};
-ghost use Rattle.ht_net.specs.Detection.{IsPlace};
-ghost use Rattle.ht_net.specs.Netlist.{Netlist};
+ghost use Rattle.ht_net.specs.Detect.Detection.{IsPlace};
+ghost use Rattle.ht_net.specs.Circuit.Netlist.{Netlist};
 ghost use Rattle.ht_texts.specs.declared.said.Said.{Said};
 ghost use Rattle.ht_texts.specs.Sites.{output_text};
 ghost use Rattle.ht_texts.specs.Verdicts.{IsSayable, place_text, says_detected, verdict_text};

@@ -1,6 +1,6 @@
 //! What a report says of a class of faults.
 ghost use Rattle.std.specs.Prelude.{◌≡◌, OnOk, IfOk};
-ghost use Rattle.ht_net.specs.Detection.{IsPlace};
+ghost use Rattle.ht_net.specs.Detect.Detection.{IsPlace};
 ghost use Rattle.ht_texts.specs.Pieces.{add_pieces};
 ghost use Rattle.ht_texts.specs.Verdicts.{IsSayable, said_of, saids_of, verdict_pieces};
 ghost use Rattle.ht_texts.specs.declared.said.Said.TheVariants.{Detected};

@@ -1,6 +1,6 @@
 //! The names of sites and outputs in a report.
 ghost use Rattle.std.specs.Prelude.{◌≡◌, ◌<◌, length, OnOk};
-ghost use Rattle.ht_net.specs.Netlist.{net_count};
+ghost use Rattle.ht_net.specs.Circuit.Netlist.{net_count};
 ghost use Rattle.ht_texts.specs.Pieces.{add_pieces};
 ghost use Rattle.ht_texts.specs.PiecesOf.{pieces_of};
 ghost use Rattle.ht_texts.specs.Sites.{IsSite, pin_pieces, site_pieces, output_text};

@@ -3,7 +3,7 @@
 ghost use Rattle.std.specs.Prelude.{◌≡◌, ◌<◌, ◌≤◌, ◌+◌, ◌^◌, ◌⊎◌, ◌++◌, ◌∷◌, [], ℕ, List, Bool, Some, length, take};
 ghost use Rattle.std.specs.List.{All};
 ghost use Rattle.ht_ports.specs.LineRule.{lines_of, max_text_bytes};
-ghost use Rattle.ht_net.specs.Netlist.{Netlist, IsCircuit};
+ghost use Rattle.ht_net.specs.Circuit.Netlist.{Netlist, IsCircuit};
 ghost use Rattle.ht_faults.specs.Sites.{faults_of};
 ghost use Rattle.ht_faults.specs.Classes.{AreClasses};
 ghost use Rattle.ht_texts.specs.declared.said.Said.{Said};

@@ -3,13 +3,13 @@ use Rattle.std.proofs.Common.{◌≡◌, ◌<◌, ◌≤◌, ℕ, suc, zero, Lis
 use Rattle.ht_tern.specs.declared.tern.Tern.{Tern}
 use Rattle.ht_tern.specs.declared.tern.Tern.TheVariants.{Unk}
 use Rattle.ht_tern.specs.Gate.{Refines}
-use Rattle.ht_net.specs.Detection.{terns_of, unknown_state}
-use Rattle.ht_net.specs.Faults.{forced, tern_rules}
-use Rattle.ht_net.specs.Frame.{net_value, next_state}
-use Rattle.ht_net.specs.Netlist.{Netlist}
+use Rattle.ht_net.specs.Detect.Detection.{terns_of, unknown_state}
+use Rattle.ht_net.specs.Frames.Faults.{forced, tern_rules}
+use Rattle.ht_net.specs.Frames.Frame.{net_value, next_state}
+use Rattle.ht_net.specs.Circuit.Netlist.{Netlist}
 use Rattle.ht_net.proofs.RelationLaws.{get_related}
-use Rattle.ht_tree.specs.Decisions.{is_in}
-use Rattle.ht_tree.specs.Walks.{IsComplete}
+use Rattle.ht_tree.specs.Window.Decisions.{is_in}
+use Rattle.ht_tree.specs.Walk.Walks.{IsComplete}
 use Rattle.ht_tree.specs.declared.token.Token.{Token}
 use Rattle.ht_records.proofs.RunStateLaws.{end_state, nth, state_held, state_in, unknown_held}
 use Rattle.ht_records.proofs.ShownLaws.{next_at, unknown_at}

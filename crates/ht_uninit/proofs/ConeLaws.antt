@@ -11,10 +11,10 @@ use Rattle.ht_net.specs.declared.fault.Fault.{Fault}
 use Rattle.ht_net.specs.declared.fault.Site.{Site}
 use Rattle.ht_net.specs.declared.fault.Site.TheVariants.{DffPin, GatePin, Stem}
 use Rattle.ht_net.specs.declared.net.NetId.{NetId}
-use Rattle.ht_net.specs.Detection.{terns_of, unknown_state}
-use Rattle.ht_net.specs.Faults.{forced, is_data_pin, is_pin, is_stem, tern_rules}
-use Rattle.ht_net.specs.Frame.{driver_value, gate_output, net_value, net_value_over, net_value_within, next_state, pin_values}
-use Rattle.ht_net.specs.Netlist.{Gate, Netlist, arg_at, first_gate_net, gate_at, no_gate, no_net}
+use Rattle.ht_net.specs.Detect.Detection.{terns_of, unknown_state}
+use Rattle.ht_net.specs.Frames.Faults.{forced, is_data_pin, is_pin, is_stem, tern_rules}
+use Rattle.ht_net.specs.Frames.Frame.{driver_value, gate_output, net_value, net_value_over, net_value_within, next_state, pin_values}
+use Rattle.ht_net.specs.Circuit.Netlist.{Gate, Netlist, arg_at, first_gate_net, gate_at, no_gate, no_net}
 use Rattle.ht_net.proofs.FrameLaws.{driven_gate, driven_input, driven_latch, le_or_lt}
 use Rattle.ht_records.proofs.RunStateLaws.{nth, state_in}
 use Rattle.ht_records.proofs.ShownLaws.{next_at}

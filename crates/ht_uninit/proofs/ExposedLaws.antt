@@ -8,7 +8,7 @@ use Rattle.std.proofs.lemmas.List.Folds.{list_any-append}
 use Rattle.std.proofs.lemmas.List.Sums.{sum_by-set}
 use Rattle.ht_net.specs.declared.fault.Fault.{Fault}
 use Rattle.ht_net.specs.declared.net.NetId.{NetId}
-use Rattle.ht_net.specs.Netlist.{Netlist, arg_at, first_gate_net, gate_at, net_count}
+use Rattle.ht_net.specs.Circuit.Netlist.{Netlist, arg_at, first_gate_net, gate_at, net_count}
 use Rattle.ht_net.proofs.FrameLaws.{le_or_lt}
 use Rattle.ht_uninit.specs.declared.record.Out3.{Out3}
 use Rattle.ht_uninit.specs.Rounds.{is_mute, mutes_of}

@@ -12,16 +12,16 @@ use Rattle.ht_tern.specs.declared.tern.Tern.TheVariants.{One, Unk, Zero}
 use Rattle.ht_tern.specs.Gate.{tern_of}
 use Rattle.ht_pairs.specs.Decided.{values_left}
 use Rattle.ht_pairs.specs.Pairs.{IsMember}
-use Rattle.ht_net.specs.Detection.{terns_of}
-use Rattle.ht_net.specs.Faults.{tern_rules}
-use Rattle.ht_net.specs.Frame.{net_value}
-use Rattle.ht_net.specs.Netlist.{Netlist, first_gate_net}
-use Rattle.ht_tree.specs.Decisions.{decided_value, is_in, latch_values_left, newer}
-use Rattle.ht_tree.specs.FoundLists.{bit_or_zero, vector_of}
-use Rattle.ht_tree.specs.Nodes.{cube_of, or_unknown}
-use Rattle.ht_tree.specs.Searches.{node_at}
-use Rattle.ht_tree.specs.Walks.{Fits, Node, children, decide, decides}
-use Rattle.ht_tree.specs.WindowStatus.{is_definite}
+use Rattle.ht_net.specs.Detect.Detection.{terns_of}
+use Rattle.ht_net.specs.Frames.Faults.{tern_rules}
+use Rattle.ht_net.specs.Frames.Frame.{net_value}
+use Rattle.ht_net.specs.Circuit.Netlist.{Netlist, first_gate_net}
+use Rattle.ht_tree.specs.Window.Decisions.{decided_value, is_in, latch_values_left, newer}
+use Rattle.ht_tree.specs.Walk.FoundLists.{bit_or_zero, vector_of}
+use Rattle.ht_tree.specs.Window.Nodes.{cube_of, or_unknown}
+use Rattle.ht_tree.specs.Walk.Searches.{node_at}
+use Rattle.ht_tree.specs.Walk.Walks.{Fits, Node, children, decide, decides}
+use Rattle.ht_tree.specs.Window.WindowStatus.{is_definite}
 use Rattle.ht_tree.specs.declared.token.Assign3.{Assign3}
 use Rattle.ht_tree.specs.declared.token.Token.{Token}
 use Rattle.ht_tree.specs.declared.token.Token.TheVariants as token

@@ -6,11 +6,11 @@ use Rattle.std.proofs.lemmas.List.Elements.{All-from_get_or}
 use Rattle.std.proofs.lemmas.List.Folds.{list_all-append}
 use Rattle.std.proofs.lemmas.List.FromFn.{fill_by_all, get_or-range_with_len, length-range_with_len}
 use Rattle.ht_net.specs.declared.fault.Fault.{Fault}
-use Rattle.ht_net.specs.Netlist.{Netlist}
+use Rattle.ht_net.specs.Circuit.Netlist.{Netlist}
 use Rattle.ht_tree.specs.declared.token.Token.{Token}
-use Rattle.ht_tree.specs.Budgets.{refutation_cost}
-use Rattle.ht_tree.specs.Searches.{node_at}
-use Rattle.ht_tree.specs.Walks.{IsComplete}
+use Rattle.ht_tree.specs.Walk.Budgets.{refutation_cost}
+use Rattle.ht_tree.specs.Walk.Searches.{node_at}
+use Rattle.ht_tree.specs.Walk.Walks.{IsComplete}
 use Rattle.ht_uninit.specs.declared.record.Removed.{Removed}
 use Rattle.ht_uninit.specs.declared.record.Removed.TheVariants.{Free, Spent}
 use Rattle.ht_uninit.specs.declared.record.Out3.{Out3}

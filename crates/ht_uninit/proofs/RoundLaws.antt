@@ -7,9 +7,9 @@ use Rattle.std.proofs.lemmas.Bool.Decides.{eqb_tells, nat_tests}
 use Rattle.std.proofs.lemmas.List.{length-replicate, length-set, length_push}
 use Rattle.std.proofs.lemmas.List.Folds.{list_any-append}
 use Rattle.std.proofs.lemmas.List.FromFn.{length-range_with_len}
-use Rattle.ht_net.specs.Netlist.{Netlist}
+use Rattle.ht_net.specs.Circuit.Netlist.{Netlist}
 use Rattle.ht_tree.specs.declared.token.Token.{Token}
-use Rattle.ht_tree.specs.Decisions.{is_in}
+use Rattle.ht_tree.specs.Window.Decisions.{is_in}
 use Rattle.ht_uninit.specs.declared.record.Removed.{Removed}
 use Rattle.ht_faults.specs.Sites.{data_net}
 use Rattle.ht_uninit.specs.HeldSearches.{ClosesUnknown}

@@ -3,7 +3,7 @@ use Rattle.std.specs.Prelude.{◌≡◌, ◌<◌, ◌≤◌, ◌+◌, ◌++◌, 
 use Rattle.std.specs.List.{list_any, sum_by}
 use Rattle.ht_net.specs.declared.fault.Fault.{Fault}
 use Rattle.ht_net.specs.declared.net.NetId.{NetId}
-use Rattle.ht_net.specs.Netlist.{Netlist, arg_at, first_gate_net, gate_at, net_count}
+use Rattle.ht_net.specs.Circuit.Netlist.{Netlist, arg_at, first_gate_net, gate_at, net_count}
 use Rattle.ht_faults.specs.FaultList.{no_fault}
 use Rattle.ht_faults.specs.Sites.{data_net}
 use Rattle.ht_uninit.specs.Cones.{InCone, IsHidden, cone_root, output_net}

@@ -2,11 +2,11 @@
 use Rattle.std.specs.Prelude.{◌≡◌, ℕ, List, [], ◌∷◌, flat_map, Option, Some, None}
 use Rattle.std.specs.List.{range_with_len}
 use Rattle.ht_tern.specs.declared.tern.Tern.{Tern}
-use Rattle.ht_net.specs.Netlist.{Netlist, first_gate_net}
+use Rattle.ht_net.specs.Circuit.Netlist.{Netlist, first_gate_net}
 use Rattle.ht_tree.specs.declared.token.Assign3.{Assign3}
 use Rattle.ht_tree.specs.declared.token.Token.{Token}
-use Rattle.ht_tree.specs.Decisions.{decided_value}
-use Rattle.ht_tree.specs.Searches.{FindsAt, Closes, SpendsAt, node_at}
+use Rattle.ht_tree.specs.Window.Decisions.{decided_value}
+use Rattle.ht_tree.specs.Walk.Searches.{FindsAt, Closes, SpendsAt, node_at}
 use Rattle.ht_uninit.specs.HeldWindows.{held_guide}
 
 -- the decision of a variable, where a path decided it

@@ -1,9 +1,9 @@
 -- A window in which a set of flip-flops is held unknown, as contracts see it.
 use Rattle.std.specs.Prelude.{◌≡◌, ◌≤◌, ◌+◌, ◌++◌, ℕ, List, Bool, true, false, length, drop}
-use Rattle.ht_net.specs.Netlist.{Netlist}
+use Rattle.ht_net.specs.Circuit.Netlist.{Netlist}
 use Rattle.ht_tree.specs.declared.token.Assign3.{Assign3}
-use Rattle.ht_tree.specs.Walks.{decides}
-use Rattle.ht_tree.specs.Searches.{Guide}
+use Rattle.ht_tree.specs.Walk.Walks.{decides}
+use Rattle.ht_tree.specs.Walk.Searches.{Guide}
 use Rattle.ht_window.specs.Starts.{marked}
 use Rattle.ht_window.specs.States.{WindowState}
 use Rattle.ht_uninit.specs.declared.held_window.HeldWindow.TheInside.{Inside}

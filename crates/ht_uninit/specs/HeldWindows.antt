@@ -6,16 +6,16 @@
 use Rattle.std.specs.Prelude.{◌+◌, ◌++◌, ◌==◌, ℕ, List, map, filter, true, false, not, ◌&&◌, if◌then◌else◌}
 use Rattle.ht_tern.specs.declared.tern.Tern.TheVariants.{Unk}
 use Rattle.ht_pairs.specs.Pairs.{Pair, pair, is_member}
-use Rattle.ht_net.specs.Netlist.{Netlist}
-use Rattle.ht_net.specs.Detection.{unknown_state}
+use Rattle.ht_net.specs.Circuit.Netlist.{Netlist}
+use Rattle.ht_net.specs.Detect.Detection.{unknown_state}
 use Rattle.ht_tree.specs.declared.token.Assign3.{Assign3}
 use Rattle.ht_tree.specs.declared.token.Status3.{Status3}
 use Rattle.ht_tree.specs.declared.token.Status3.TheVariants as status3
-use Rattle.ht_tree.specs.Walks.{Judge, decides, path_of}
-use Rattle.ht_tree.specs.Windows.{SearchWindow, back_window, cell_at, is_undetermined}
-use Rattle.ht_tree.specs.Variables.{may_two, may_three}
-use Rattle.ht_tree.specs.WalkBack.{walk_back}
-use Rattle.ht_tree.specs.Searches.{Guide}
+use Rattle.ht_tree.specs.Walk.Walks.{Judge, decides, path_of}
+use Rattle.ht_tree.specs.Window.Windows.{SearchWindow, back_window, cell_at, is_undetermined}
+use Rattle.ht_tree.specs.Window.Variables.{may_two, may_three}
+use Rattle.ht_tree.specs.Window.WalkBack.{walk_back}
+use Rattle.ht_tree.specs.Walk.Searches.{Guide}
 
 -- one frame of the good machine, after which nothing is wanted
 abbrev pub good_window : Netlist → SearchWindow

@@ -1,6 +1,6 @@
 -- How far the rounds have come, as the code holds it.
 use Rattle.std.specs.Prelude.{◌≡◌, ◌<◌, ◌≤◌, ◌+◌, ◌++◌, ◌∷◌, ℕ, List, [], true, Option, None, length, get_or, set}
-use Rattle.ht_net.specs.Netlist.{Netlist}
+use Rattle.ht_net.specs.Circuit.Netlist.{Netlist}
 use Rattle.ht_tree.specs.declared.token.Token.{Token}
 use Rattle.ht_uninit.specs.declared.record.Removed.{Removed}
 use Rattle.ht_uninit.specs.declared.record.Out3.{Out3}

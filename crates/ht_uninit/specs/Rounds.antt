@@ -1,7 +1,7 @@
 -- The rounds in which flip-flops are removed from the set that is held unknown, at first all of them.
 use Rattle.std.specs.Prelude.{◌≡◌, ◌<◌, ◌+◌, ◌++◌, ℕ, List, [], ◌∷◌, Bool, true, false, not, ◌==◌, length, filter, map, get_or}
 use Rattle.std.specs.List.{list_any, range_with_len}
-use Rattle.ht_net.specs.Netlist.{Netlist}
+use Rattle.ht_net.specs.Circuit.Netlist.{Netlist}
 use Rattle.ht_tree.specs.declared.token.Token.{Token}
 use Rattle.ht_uninit.specs.declared.record.Removed.{Removed}
 use Rattle.ht_uninit.specs.declared.record.Removed.TheVariants.{Free, Spent}

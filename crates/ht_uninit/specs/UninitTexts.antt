@@ -5,7 +5,7 @@ use Rattle.std.specs.Prelude.{◌-◌, ℕ, List, [], ◌∷◌, ◌++◌, if◌
 use Rattle.std.specs.List.{range_with_len}
 use Rattle.ht_tern.specs.declared.tern.Tern.{Tern}
 use Rattle.ht_tern.specs.declared.tern.Tern.TheVariants.{One, Unk, Zero}
-use Rattle.ht_net.specs.Netlist.{Netlist}
+use Rattle.ht_net.specs.Circuit.Netlist.{Netlist}
 use Rattle.ht_tree.specs.declared.token.Assign3.{Assign3}
 use Rattle.ht_tree.specs.declared.token.Token.{Token}
 use Rattle.ht_faults.specs.Sites.{faults_of}

@@ -1,6 +1,6 @@
 //! The nets from which an output that isn't mute is reached, in this frame or in a later one.
 ghost use Rattle.std.specs.Prelude.{◌≡◌, ◌<◌, ◌+◌, ℕ, Bool, [], length, get_or, set, true, false, IfOk, OnOk};
-ghost use Rattle.ht_net.specs.Netlist.{first_gate_net, gate_at, net_count, IsCircuit};
+ghost use Rattle.ht_net.specs.Circuit.Netlist.{first_gate_net, gate_at, net_count, IsCircuit};
 ghost use Rattle.ht_uninit.specs.Cones.{output_net};
 ghost use Rattle.ht_uninit.specs.Exposed.{AreExposed, LeadsOut, TellsHidden, is_marked, waiting_after, work_left};
 ghost use Rattle.ht_uninit.specs.Rounds.{is_mute, mutes_of};

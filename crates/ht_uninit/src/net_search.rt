@@ -1,9 +1,9 @@
 //! The search for a net that isn't unknown.
 ghost use Rattle.std.specs.Prelude.{◌≡◌, ◌<◌, ℕ, [], IfOk, OnOk};
-ghost use Rattle.ht_net.specs.Netlist.{net_count};
+ghost use Rattle.ht_net.specs.Circuit.Netlist.{net_count};
 ghost use Rattle.ht_search.specs.Outcomes.{IsOutcome};
 ghost use Rattle.ht_search.specs.WindowSteps.{route_of, steps_under};
-ghost use Rattle.ht_tree.specs.Searches.{node_at};
+ghost use Rattle.ht_tree.specs.Walk.Searches.{node_at};
 ghost use Rattle.ht_uninit.specs.HeldStates.{guide_for};
 ghost use Rattle.ht_uninit.specs.HeldWindows.{held_guide, known_status};
 ghost use Rattle.ht_uninit.specs.Rounds.{IsOutput};

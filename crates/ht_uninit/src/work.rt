@@ -1,7 +1,7 @@
 //! Flip-flops that never get a definite value, outputs that never show one, and the faults that they hide.
 ghost use Rattle.std.specs.Prelude.{◌≡◌, ◌<◌, ◌+◌, [], length, map, IfOk, OnOk};
 ghost use Rattle.std.specs.List.{All, range_with_len};
-ghost use Rattle.ht_net.specs.Netlist.{net_count};
+ghost use Rattle.ht_net.specs.Circuit.Netlist.{net_count};
 ghost use Rattle.ht_faults.specs.Sites.{IsFaultSite, faults_of};
 ghost use Rattle.ht_uninit.specs.Cones.{cone_root};
 ghost use Rattle.ht_uninit.specs.Exposed.{begins_unmarked};

@@ -4,7 +4,7 @@ use Rattle.std.specs.List.{All}
 use Rattle.std.proofs.lemmas.List.Elements.{All-cons, All-nil}
 use Rattle.ht_tern.specs.declared.tern.Tern.{Tern}
 use Rattle.ht_net.specs.declared.fault.Fault.{Fault}
-use Rattle.ht_net.specs.Netlist.{IsCircuit, Netlist}
+use Rattle.ht_net.specs.Circuit.Netlist.{IsCircuit, Netlist}
 use Rattle.ht_cubes.specs.declared.rail.Rail.{Rail}
 use Rattle.ht_cubes.specs.declared.signed_var.SignedVar.{SignedVar}
 use Rattle.ht_cubes.specs.declared.clause_step.ClauseStep.{ClauseStep}

@@ -1,16 +1,16 @@
 -- In what is justified a budget that is enough decides a representative that is easy to decide.
 use Rattle.std.proofs.Common.{◌∙◌, ◌≤◌, ℕ, List, Bool, length, inl, inr, refl, sym}
 use Rattle.std.specs.Prelude.{◌≢◌}
-use Rattle.ht_net.specs.Netlist.{Netlist, IsCircuit}
-use Rattle.ht_net.specs.Detection.{Detects, IsStart}
-use Rattle.ht_net.specs.Silence.{Sealed}
+use Rattle.ht_net.specs.Circuit.Netlist.{Netlist, IsCircuit}
+use Rattle.ht_net.specs.Detect.Detection.{Detects, IsStart}
+use Rattle.ht_net.specs.Detect.Silence.{Sealed}
 use Rattle.ht_net.proofs.SilenceLaws.{sealed_undetected_from}
 use Rattle.ht_faults.specs.Classes.{fault_at}
 use Rattle.ht_tree.specs.declared.entry.Entry.{Entry}
 use Rattle.ht_tree.specs.declared.entry.Entry.TheVariants as entries
 use Rattle.ht_tree.specs.declared.kind.EntryKind.TheVariants as kinds
-use Rattle.ht_tree.specs.Entries.{Passes, kind_of}
-use Rattle.ht_tree.specs.Budgets.{refutation_cost, sweep_cost}
+use Rattle.ht_tree.specs.Record.Entries.{Passes, kind_of}
+use Rattle.ht_tree.specs.Walk.Budgets.{refutation_cost, sweep_cost}
 use Rattle.ht_records.proofs.AbortLaws.{enough_undetected, enough_unsealed, passing_means}
 use Rattle.ht_texts.specs.declared.said.Said.{Said}
 use Rattle.ht_texts.specs.declared.said.Said.TheVariants.{Detected, Untestable, Undetectable, Aborted, Undetected}

@@ -3,16 +3,16 @@ use Rattle.std.proofs.Common.{◌≡◌, ◌<◌, ℕ, List, [], ◌∷◌, Bool
 use Rattle.std.specs.List.{All}
 use Rattle.std.proofs.lemmas.List.Elements.{All-head}
 use Rattle.ht_net.specs.declared.fault.Fault.{Fault}
-use Rattle.ht_net.specs.Netlist.{IsCircuit, Netlist}
+use Rattle.ht_net.specs.Circuit.Netlist.{IsCircuit, Netlist}
 use Rattle.ht_tree.specs.declared.clause.Clause.{Clause}
 use Rattle.ht_tree.specs.declared.clause.Literal.{Literal}
 use Rattle.ht_tree.specs.declared.token.Token.{Token}
-use Rattle.ht_tree.specs.Walks.{root_stack}
-use Rattle.ht_tree.specs.Windows.{one_frame_window}
-use Rattle.ht_tree.specs.Clauses.{IsClause, IsSecond, literals_of, literals_of_each}
-use Rattle.ht_tree.specs.ClauseWindows.{closing_window, good_window, judge_under, window_under}
-use Rattle.ht_tree.specs.Invariants.{IsClosedUnder}
-use Rattle.ht_tree.specs.RefutationsFrom.{RefutesFrom}
+use Rattle.ht_tree.specs.Walk.Walks.{root_stack}
+use Rattle.ht_tree.specs.Window.Windows.{one_frame_window}
+use Rattle.ht_tree.specs.Clause.Clauses.{IsClause, IsSecond, literals_of, literals_of_each}
+use Rattle.ht_tree.specs.Clause.ClauseWindows.{closing_window, good_window, judge_under, window_under}
+use Rattle.ht_tree.specs.Clause.Invariants.{IsClosedUnder}
+use Rattle.ht_tree.specs.Record.RefutationsFrom.{RefutesFrom}
 use Rattle.ht_entries.specs.FromState.{IsClauseText, IsFromStateText, IsSecondText}
 use Rattle.ht_valid.proofs.TokenTextLaws.{set_text, walk_text_by}
 

@@ -4,11 +4,11 @@ use Rattle.std.proofs.Common.{◌≡◌, ◌∙◌, ℕ, List, [], ◌∷◌, Bo
 use Rattle.std.specs.Prelude.{◌≢◌}
 use Rattle.ht_tern.specs.declared.tern.Tern.{Tern}
 use Rattle.ht_net.specs.declared.fault.Fault.{Fault}
-use Rattle.ht_net.specs.Netlist.{Netlist, IsCircuit}
-use Rattle.ht_net.specs.Frame.{next_state}
-use Rattle.ht_net.specs.Faults.{bool_rules}
-use Rattle.ht_net.specs.Detection.{Detects, DetectsFrom, IsStart, unknown_state}
-use Rattle.ht_net.specs.Silence.{AgreeOutside, Sealed}
+use Rattle.ht_net.specs.Circuit.Netlist.{Netlist, IsCircuit}
+use Rattle.ht_net.specs.Frames.Frame.{next_state}
+use Rattle.ht_net.specs.Frames.Faults.{bool_rules}
+use Rattle.ht_net.specs.Detect.Detection.{Detects, DetectsFrom, IsStart, unknown_state}
+use Rattle.ht_net.specs.Detect.Silence.{AgreeOutside, Sealed}
 use Rattle.ht_net.proofs.SilenceLaws.{sealed_undetected_from, silent_undetected_from}
 use Rattle.ht_faults.specs.Classes.{SameClass}
 use Rattle.ht_faults.proofs.RunLaws.{bool_members_alike, members_detected}
@@ -18,12 +18,12 @@ use Rattle.ht_tree.specs.declared.entry.Entry.{Entry}
 use Rattle.ht_tree.specs.declared.entry.Entry.TheVariants as entries
 use Rattle.ht_tree.specs.declared.kind.EntryKind.{EntryKind}
 use Rattle.ht_tree.specs.declared.kind.EntryKind.TheVariants as kinds
-use Rattle.ht_tree.specs.Clauses.{literals_of_each}
-use Rattle.ht_tree.specs.Decisions.{is_in}
-use Rattle.ht_tree.specs.Entries.{AllowsEntry, Means, kind_of}
-use Rattle.ht_tree.specs.Refutations.{IsUntestable}
-use Rattle.ht_tree.specs.RefutationsFrom.{IsUntestableFrom}
-use Rattle.ht_tree.specs.SealedInClauses.{SealedIn}
+use Rattle.ht_tree.specs.Clause.Clauses.{literals_of_each}
+use Rattle.ht_tree.specs.Window.Decisions.{is_in}
+use Rattle.ht_tree.specs.Record.Entries.{AllowsEntry, Means, kind_of}
+use Rattle.ht_tree.specs.Record.Refutations.{IsUntestable}
+use Rattle.ht_tree.specs.Record.RefutationsFrom.{IsUntestableFrom}
+use Rattle.ht_tree.specs.Clause.SealedInClauses.{SealedIn}
 use Rattle.ht_valid.specs.ValidFiles.{said_by_kind}
 
 -- kinds of which entries say the same are the same

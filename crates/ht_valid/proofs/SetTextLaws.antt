@@ -9,10 +9,10 @@ use Rattle.ht_tern.specs.declared.tern.Tern.{Tern}
 use Rattle.ht_tern.specs.declared.tern.Tern.TheVariants.{Unk}
 use Rattle.ht_pairs.specs.Pairs.{IsMember, Pair, pair}
 use Rattle.ht_net.specs.declared.fault.Fault.{Fault}
-use Rattle.ht_net.specs.Netlist.{IsCircuit, Netlist}
+use Rattle.ht_net.specs.Circuit.Netlist.{IsCircuit, Netlist}
 use Rattle.ht_tree.specs.declared.family_row.FamilyRow.{FamilyRow}
-use Rattle.ht_tree.specs.FamilyRows.{ClosesByRows, dffs_of, row_set, start_set}
-use Rattle.ht_tree.specs.Rising.{Rises}
+use Rattle.ht_tree.specs.Record.FamilyRows.{ClosesByRows, dffs_of, row_set, start_set}
+use Rattle.ht_tree.specs.Record.Rising.{Rises}
 use Rattle.ht_entries.specs.BySets.{IsBySetsText}
 use Rattle.ht_entries.proofs.RisesLaws.{rises_cons, rises_one, rises_tail}
 use Rattle.ht_entries.proofs.PairsTextLaws.{some_of_member}

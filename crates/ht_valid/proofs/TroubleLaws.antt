@@ -5,7 +5,7 @@ use Rattle.std.proofs.lemmas.List.{same_from_push}
 use Rattle.std.proofs.lemmas.List.Elements.{All-cons, All-head, All-nil, All-tail}
 use Rattle.ht_ports.specs.LineRule.{lines_of}
 use Rattle.ht_tern.specs.declared.tern.Tern.{Tern}
-use Rattle.ht_net.specs.Netlist.{IsCircuit, Netlist}
+use Rattle.ht_net.specs.Circuit.Netlist.{IsCircuit, Netlist}
 use Rattle.ht_texts.specs.Tests.{IsTestText, IsWrongLine, line_at}
 use Rattle.ht_texts.specs.SearchReports.{IsReportText}
 use Rattle.ht_texts.specs.Verdicts.{said_at}

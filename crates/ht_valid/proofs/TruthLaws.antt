@@ -3,8 +3,8 @@ use Rattle.std.proofs.Common.{◌≡◌, ◌∙◌, ◌+◌, ℕ, List, get_or, 
 use Rattle.std.specs.Prelude.{◌≢◌}
 use Rattle.std.specs.List.{Contains}
 use Rattle.ht_net.specs.declared.place.Place.{Place}
-use Rattle.ht_net.specs.Netlist.{Netlist, IsCircuit}
-use Rattle.ht_net.specs.Detection.{IsFirstFrom, IsStart}
+use Rattle.ht_net.specs.Circuit.Netlist.{Netlist, IsCircuit}
+use Rattle.ht_net.specs.Detect.Detection.{IsFirstFrom, IsStart}
 use Rattle.ht_net.proofs.ApartLaws.{detected_apart_from}
 use Rattle.ht_faults.specs.Classes.{AreClasses, SameClass, fault_at}
 use Rattle.ht_faults.proofs.RunLaws.{members_detected}
@@ -12,8 +12,8 @@ use Rattle.ht_tree.specs.declared.entry.Entry.{Entry}
 use Rattle.ht_tree.specs.declared.entry.Entry.TheVariants as entries
 use Rattle.ht_tree.specs.declared.kind.EntryKind.{EntryKind}
 use Rattle.ht_tree.specs.declared.kind.EntryKind.TheVariants as kinds
-use Rattle.ht_tree.specs.AbortRecords.{AbortView}
-use Rattle.ht_tree.specs.Entries.{AllowsEntry, Passes, kind_of}
+use Rattle.ht_tree.specs.Record.AbortRecords.{AbortView}
+use Rattle.ht_tree.specs.Record.Entries.{AllowsEntry, Passes, kind_of}
 use Rattle.ht_records.proofs.AbortLaws.{abort_means, passing_means}
 use Rattle.ht_texts.specs.declared.said.Said.{Said}
 use Rattle.ht_texts.specs.declared.said.Said.TheVariants.{Detected, Untestable, Undetectable, Aborted, Undetected}

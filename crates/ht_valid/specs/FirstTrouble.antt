@@ -4,10 +4,10 @@ use Rattle.std.specs.Prelude.{◌≡◌, ◌⊎◌, ◌<◌, ◌≤◌, ◌+◌,
 use Rattle.std.specs.Option.{ForSome}
 use Rattle.ht_ports.specs.LineRule.{lines_of}
 use Rattle.ht_tern.specs.declared.tern.Tern.{Tern}
-use Rattle.ht_net.specs.Netlist.{Netlist}
-use Rattle.ht_net.specs.Detection.{IsFirstFrom}
+use Rattle.ht_net.specs.Circuit.Netlist.{Netlist}
+use Rattle.ht_net.specs.Detect.Detection.{IsFirstFrom}
 use Rattle.ht_faults.specs.Classes.{fault_at}
-use Rattle.ht_tree.specs.Entries.{AllowsEntry, Passes}
+use Rattle.ht_tree.specs.Record.Entries.{AllowsEntry, Passes}
 use Rattle.ht_texts.specs.declared.item.Item.TheVariants.{Verdict}
 use Rattle.ht_texts.specs.declared.said.Said.{Said}
 use Rattle.ht_texts.specs.Tests.{IsTestText, IsMalformedTest, line_at}

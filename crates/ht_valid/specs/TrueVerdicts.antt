@@ -3,18 +3,18 @@
 use Rattle.std.specs.Prelude.{◌≡◌, ◌≢◌, ◌⊎◌, ◌≤◌, ◌<◌, ◌+◌, ℕ, List, Bool, length, get_or, Some, None}
 use Rattle.std.specs.List.{Contains}
 use Rattle.ht_net.specs.declared.place.Place.{Place}
-use Rattle.ht_net.specs.Netlist.{Netlist}
-use Rattle.ht_net.specs.Detection.{ApartFrom, Detects, DetectsFrom, IsFirstFrom}
-use Rattle.ht_net.specs.Silence.{Sealed}
+use Rattle.ht_net.specs.Circuit.Netlist.{Netlist}
+use Rattle.ht_net.specs.Detect.Detection.{ApartFrom, Detects, DetectsFrom, IsFirstFrom}
+use Rattle.ht_net.specs.Detect.Silence.{Sealed}
 use Rattle.ht_faults.specs.Sites.{faults_of}
 use Rattle.ht_faults.specs.Classes.{fault_at}
 use Rattle.ht_tree.specs.declared.entry.Entry.{Entry}
 use Rattle.ht_tree.specs.declared.entry.Entry.TheVariants as entry
 use Rattle.ht_tree.specs.declared.kind.EntryKind.{EntryKind}
 use Rattle.ht_tree.specs.declared.kind.EntryKind.TheVariants as kinds
-use Rattle.ht_tree.specs.AbortRecords.{AbortMeans, AbortView, IsAbortRecord}
-use Rattle.ht_tree.specs.Budgets.{refutation_cost, sweep_cost}
-use Rattle.ht_tree.specs.Entries.{AllowsEntry, Means, Passes, kind_of}
+use Rattle.ht_tree.specs.Record.AbortRecords.{AbortMeans, AbortView, IsAbortRecord}
+use Rattle.ht_tree.specs.Walk.Budgets.{refutation_cost, sweep_cost}
+use Rattle.ht_tree.specs.Record.Entries.{AllowsEntry, Means, Passes, kind_of}
 use Rattle.ht_texts.specs.declared.said.Said.{Said}
 use Rattle.ht_texts.specs.declared.said.Said.TheVariants.{Detected, Untestable, Undetectable, Aborted, Undetected}
 use Rattle.ht_texts.specs.Verdicts.{said_at}

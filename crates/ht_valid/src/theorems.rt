@@ -2,13 +2,13 @@
 ghost use Rattle.std.specs.Prelude.{◌≡◌, ◌<◌, ◌≤◌, ◌+◌, ℕ, List, length};
 ghost use Rattle.ht_tern.specs.declared.tern.Tern.{Tern};
 ghost use Rattle.ht_net.specs.declared.fault.Fault.{Fault};
-ghost use Rattle.ht_net.specs.Netlist.{Netlist, IsCircuit};
-ghost use Rattle.ht_net.specs.Detection.{IsStart};
+ghost use Rattle.ht_net.specs.Circuit.Netlist.{Netlist, IsCircuit};
+ghost use Rattle.ht_net.specs.Detect.Detection.{IsStart};
 ghost use Rattle.ht_faults.specs.Sites.{faults_of};
 ghost use Rattle.ht_faults.specs.Classes.{AreClasses};
 ghost use Rattle.ht_tree.specs.declared.entry.Entry.{Entry};
 ghost use Rattle.ht_tree.specs.declared.limits.TheConstants.{MAX_BUDGET};
-ghost use Rattle.ht_tree.specs.Entries.{Passes};
+ghost use Rattle.ht_tree.specs.Record.Entries.{Passes};
 ghost use Rattle.ht_texts.specs.Tests.{IsTestText};
 ghost use Rattle.ht_entries.specs.EntryTexts.{IsEntryText, IsProofText};
 ghost use Rattle.ht_valid.specs.declared.trouble.Trouble.{Trouble};

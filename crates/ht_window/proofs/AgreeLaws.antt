@@ -1,13 +1,13 @@
 -- Items that agree, and nets that hold.
 use Rattle.std.proofs.Common.{◌≡◌, ◌≢◌, ◌<◌, ◌≤◌, ◌-◌, inl, inr, ℕ, List, Option, true, length, set, refl, sym, ◌∙◌, ap, arith, subst}
 use Rattle.ht_pairs.specs.Pairs.{Pair}
-use Rattle.ht_net.specs.Netlist.{Netlist, net_count}
+use Rattle.ht_net.specs.Circuit.Netlist.{Netlist, net_count}
 use Rattle.ht_net.proofs.FrameLaws.{le_or_lt}
 use Rattle.ht_trail.specs.Trails.{IsLater}
 use Rattle.ht_events.specs.Items.{frame_items, item_count, item_at, frame_of, local_of, driven_net, IsReader, IsLoad}
 use Rattle.ht_events.proofs.ItemLaws.{item_inside, reader_loads}
 use Rattle.ht_tree.specs.declared.token.Assign3.{Assign3}
-use Rattle.ht_tree.specs.Windows.{SearchWindow, IsWindow, pair_set_rules, frame_inputs}
+use Rattle.ht_tree.specs.Window.Windows.{SearchWindow, IsWindow, pair_set_rules, frame_inputs}
 use Rattle.ht_window.specs.Standing.{Standing}
 use Rattle.ht_window.specs.Cells.{cell_index, cell_count, env_at, latches_over, value_over, HoldsValue, AreCells}
 use Rattle.ht_relevant.specs.Near.{RelevantState}

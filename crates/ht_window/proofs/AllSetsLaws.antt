@@ -4,12 +4,12 @@ use Rattle.std.proofs.Math.Nat.{suc-mul, mul-le-mul_right}
 use Rattle.std.proofs.lemmas.Bool.Decides.{eqb_tells}
 use Rattle.std.proofs.lemmas.List.{get_or_append_left, get_or-append-add}
 use Rattle.ht_pairs.specs.Pairs.{Pair}
-use Rattle.ht_net.specs.Netlist.{net_count, no_net}
-use Rattle.ht_net.specs.Frame.{data_values, next_state}
+use Rattle.ht_net.specs.Circuit.Netlist.{net_count, no_net}
+use Rattle.ht_net.specs.Frames.Frame.{data_values, next_state}
 use Rattle.ht_net.proofs.ValueLaws.{taken_same}
 use Rattle.ht_frame.specs.Values.{env_of}
 use Rattle.ht_tree.specs.declared.token.Assign3.{Assign3}
-use Rattle.ht_tree.specs.Windows.{SearchWindow, IsWindow, cell_at, first_latches, latches_at, pair_set_rules}
+use Rattle.ht_tree.specs.Window.Windows.{SearchWindow, IsWindow, cell_at, first_latches, latches_at, pair_set_rules}
 use Rattle.ht_window.specs.Cells.{blank, env_at}
 
 -- the sets of the first n frames of a window

@@ -5,10 +5,10 @@ use Rattle.std.proofs.lemmas.Bool.Decides.{leb_tells}
 use Rattle.ht_pairs.specs.Pairs.{Pair}
 use Rattle.ht_net.specs.declared.net.NetId.{NetId}
 use Rattle.ht_net.specs.declared.fault.Fault.{Fault}
-use Rattle.ht_net.specs.Netlist.{Netlist, gate_at, no_net}
-use Rattle.ht_tree.specs.Windows.{pair_set_rules, is_undetermined}
-use Rattle.ht_tree.specs.WalkBack.{undetermined_argument}
-use Rattle.ht_net.specs.Frame.{Rules}
+use Rattle.ht_net.specs.Circuit.Netlist.{Netlist, gate_at, no_net}
+use Rattle.ht_tree.specs.Window.Windows.{pair_set_rules, is_undetermined}
+use Rattle.ht_tree.specs.Window.WalkBack.{undetermined_argument}
+use Rattle.ht_net.specs.Frames.Frame.{Rules}
 
 module _ (r : Rules (List Pair)) (g : ℕ) (env : ℕ → List Pair) (args : List NetId) (i : ℕ) (here : i < length args)
     (set : List Pair)

@@ -10,9 +10,9 @@ use Rattle.ht_pairs.specs.Pairs.{Pair, IsMember, is_member}
 use Rattle.ht_pairs.proofs.SetLaws.{agree, is_member-true, is_member-from}
 use Rattle.ht_tree.specs.declared.token.Assign3.{Assign3}
 use Rattle.ht_tree.specs.declared.window.Spot.TheVariants.{State}
-use Rattle.ht_tree.specs.Windows.{SearchWindow, is_undetermined}
-use Rattle.ht_tree.specs.Places.{set_at}
-use Rattle.ht_tree.specs.WindowStatus.{is_definite, value_at, must_meet, may_meet}
+use Rattle.ht_tree.specs.Window.Windows.{SearchWindow, is_undetermined}
+use Rattle.ht_tree.specs.Window.Places.{set_at}
+use Rattle.ht_tree.specs.Window.WindowStatus.{is_definite, value_at, must_meet, may_meet}
 use Rattle.ht_window.specs.declared.cube.CubeSeen.{CubeSeen}
 use Rattle.ht_window.specs.Seen.{cube_seen_of, cube_seen_with}
 use Rattle.ht_window.proofs.SeenLaws.{find_push, filter_push}

@@ -1,10 +1,10 @@
 -- One more decision: which nets and items it reaches.
 use Rattle.std.proofs.Common.{◌≡◌, ◌<◌, ◌≤◌, ◌-◌, ◌∙◌, inl, inr, ℕ, List, [], ◌∷◌, ◌++◌, Bool, true, Option, length, set, refl, sym, ap, arith, subst}
 use Rattle.ht_pairs.specs.Pairs.{Pair}
-use Rattle.ht_net.specs.Netlist.{net_count}
+use Rattle.ht_net.specs.Circuit.Netlist.{net_count}
 use Rattle.ht_events.specs.Items.{item_at, item_count, frame_of, local_of, driven_net, IsReader}
 use Rattle.ht_tree.specs.declared.token.Assign3.{Assign3}
-use Rattle.ht_tree.specs.Windows.{SearchWindow, IsWindow}
+use Rattle.ht_tree.specs.Window.Windows.{SearchWindow, IsWindow}
 use Rattle.ht_window.specs.Cells.{cell_index, cell_count, value_over, HoldsValue, AreCells, var_frame, var_net}
 use Rattle.ht_relevant.specs.Near.{RelevantState}
 use Rattle.ht_relevant.specs.Relevant.{IsClosedBack}

@@ -5,16 +5,16 @@ use Rattle.std.proofs.lemmas.List.FromFn.{get_or-map-range_with_len}
 use Rattle.ht_pairs.specs.Pairs.{Pair}
 use Rattle.ht_net.specs.declared.fault.Fault.{Fault}
 use Rattle.ht_net.specs.declared.net.NetId.{NetId}
-use Rattle.ht_net.specs.Netlist.{net_count, first_gate_net, no_net}
-use Rattle.ht_net.specs.Netlist.{arg_at}
-use Rattle.ht_net.specs.Frame.{driver_value, gate_output}
+use Rattle.ht_net.specs.Circuit.Netlist.{net_count, first_gate_net, no_net}
+use Rattle.ht_net.specs.Circuit.Netlist.{arg_at}
+use Rattle.ht_net.specs.Frames.Frame.{driver_value, gate_output}
 use Rattle.ht_net.proofs.FrameLaws.{driven_input, driven_latch, driven_gate, gate_same}
 use Rattle.ht_net.proofs.ValueLaws.{taken_get}
 use Rattle.ht_frame.specs.Values.{env_of}
 use Rattle.ht_tree.specs.declared.token.Assign3.{Assign3}
 use Rattle.ht_pairs.specs.Decided.{same_pairs}
-use Rattle.ht_tree.specs.Decisions.{decided_value}
-use Rattle.ht_tree.specs.Windows.{input_set, SearchWindow, IsWindow, first_input, first_latch, frame_inputs, pair_set_rules}
+use Rattle.ht_tree.specs.Window.Decisions.{decided_value}
+use Rattle.ht_tree.specs.Window.Windows.{input_set, SearchWindow, IsWindow, first_input, first_latch, frame_inputs, pair_set_rules}
 use Rattle.ht_window.specs.Cells.{cell_index, env_at, blank, latches_over}
 
 -- a latch of the first frame, and of a later one

@@ -3,15 +3,15 @@ use Rattle.std.proofs.Common.{◌≡◌, ◌<◌, ◌+◌, suc, Option, ℕ, Lis
 use Rattle.ht_pairs.specs.Pairs.{Pair, pair}
 use Rattle.ht_tern.specs.declared.tern.Tern.TheVariants.{Unk}
 use Rattle.ht_net.specs.declared.net.NetId.{NetId}
-use Rattle.ht_net.specs.Netlist.{net_count, no_net}
-use Rattle.ht_net.specs.Frame.{next_state}
+use Rattle.ht_net.specs.Circuit.Netlist.{net_count, no_net}
+use Rattle.ht_net.specs.Frames.Frame.{next_state}
 use Rattle.ht_events.specs.Items.{item_count, IsReader}
 use Rattle.ht_events.specs.Plans.{PlanState}
 use Rattle.ht_events.specs.Pending.{CoreState, IsPending, QuietAgree, core_items}
 use Rattle.ht_net.specs.declared.fault.Fault.{Fault}
 use Rattle.ht_net.proofs.ValueLaws.{taken_get}
 use Rattle.ht_tree.specs.declared.token.Assign3.{Assign3}
-use Rattle.ht_tree.specs.Windows.{SearchWindow, IsWindow, cell_at, latches_at, pair_set_rules}
+use Rattle.ht_tree.specs.Window.Windows.{SearchWindow, IsWindow, cell_at, latches_at, pair_set_rules}
 use Rattle.ht_window.specs.Standing.{Standing}
 use Rattle.ht_window.specs.Cells.{cell_index, cell_count, blank, value_over, AreCells, var_frame, var_net}
 use Rattle.ht_relevant.specs.Near.{RelevantState}

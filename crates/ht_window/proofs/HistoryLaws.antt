@@ -6,7 +6,7 @@ use Rattle.ht_pairs.specs.Pairs.{Pair}
 use Rattle.ht_trail.specs.Trails.{CellsState, IsLater, at_mark, restored}
 use Rattle.ht_trail.proofs.TrailLaws.{later_mark, mark_now, undone_mark}
 use Rattle.ht_tree.specs.declared.token.Assign3.{Assign3}
-use Rattle.ht_tree.specs.Windows.{SearchWindow}
+use Rattle.ht_tree.specs.Window.Windows.{SearchWindow}
 use Rattle.ht_window.specs.Cells.{IsHistory, decision_mark, AreCells}
 
 -- the mark before each decision, as there are more and fewer of them

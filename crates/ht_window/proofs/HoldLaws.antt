@@ -1,12 +1,12 @@
 -- Which nets hold what their drivers give them, as cells change.
 use Rattle.std.proofs.Common.{◌≡◌, ◌≢◌, ◌<◌, ◌≤◌, ◌+◌, ◌-◌, ◌⊎◌, inl, inr, ℕ, suc, zero, List, Bool, true, length, get_or, set, refl, sym, ◌∙◌, ap, arith, subst}
 use Rattle.ht_pairs.specs.Pairs.{Pair}
-use Rattle.ht_net.specs.Netlist.{net_count, first_gate_net, arg_at, no_net}
-use Rattle.ht_net.specs.Frame.{net_value_over}
+use Rattle.ht_net.specs.Circuit.Netlist.{net_count, first_gate_net, arg_at, no_net}
+use Rattle.ht_net.specs.Frames.Frame.{net_value_over}
 use Rattle.ht_net.proofs.ValueLaws.{taken_get}
 use Rattle.ht_events.specs.Items.{item_at, IsReader}
 use Rattle.ht_tree.specs.declared.token.Assign3.{Assign3}
-use Rattle.ht_tree.specs.Windows.{SearchWindow, IsWindow, pair_set_rules, frame_inputs}
+use Rattle.ht_tree.specs.Window.Windows.{SearchWindow, IsWindow, pair_set_rules, frame_inputs}
 use Rattle.ht_relevant.specs.Relevant.{IsClosedBack}
 use Rattle.ht_relevant.proofs.PartWindowLaws.{latches_by, part_cells, part_holds}
 use Rattle.ht_window.specs.Cells.{cell_index, cell_count, env_at, blank, latches_over, value_over, HoldsValue, AreCells}

@@ -1,6 +1,6 @@
 -- The net of an item, and the item of a net.
 use Rattle.std.proofs.Common.{◌≡◌, ◌<◌, ◌≤◌, ◌-◌, ℕ, ◌∙◌, ap, arith, subst, sym}
-use Rattle.ht_net.specs.Netlist.{Netlist, net_count}
+use Rattle.ht_net.specs.Circuit.Netlist.{Netlist, net_count}
 use Rattle.ht_events.specs.Items.{item_count, item_at, frame_items, frame_of, local_of, driven_net}
 use Rattle.ht_events.proofs.ItemLaws.{item_is, item_frame, item_local, frame_inside, local_inside}
 use Rattle.ht_window.specs.Holding.{HeldState, MayHold, item_agrees}

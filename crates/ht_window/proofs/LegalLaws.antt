@@ -4,11 +4,11 @@ use Rattle.std.specs.Prelude.{ltb, leb, ◌&&◌}
 use Rattle.std.proofs.lemmas.Bool.Decides.{nat_tests}
 use Rattle.std.proofs.lemmas.Bool.{ltb-true}
 use Rattle.ht_tern.specs.declared.tern.Tern.{Tern}
-use Rattle.ht_net.specs.Netlist.{Netlist, first_gate_net}
+use Rattle.ht_net.specs.Circuit.Netlist.{Netlist, first_gate_net}
 use Rattle.ht_net.proofs.FrameLaws.{le_or_lt}
-use Rattle.ht_tree.specs.Decisions.{is_in}
-use Rattle.ht_tree.specs.Windows.{SearchWindow, Start, one_frame, unknown, state_pair, back, IsWindow, first_input}
-use Rattle.ht_tree.specs.Variables.{two_of_start, three_of_start, is_latch, is_faulty_latch}
+use Rattle.ht_tree.specs.Window.Decisions.{is_in}
+use Rattle.ht_tree.specs.Window.Windows.{SearchWindow, Start, one_frame, unknown, state_pair, back, IsWindow, first_input}
+use Rattle.ht_tree.specs.Window.Variables.{two_of_start, three_of_start, is_latch, is_faulty_latch}
 use Rattle.ht_tree.proofs.BeginLaws.{some_frame}
 use Rattle.ht_window.specs.States.{IsLegalDecision}
 use Rattle.ht_window.specs.Cells.{var_frame, var_net}

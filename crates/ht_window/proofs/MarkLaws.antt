@@ -7,7 +7,7 @@ use Rattle.ht_pairs.specs.Pairs.{Pair}
 use Rattle.ht_trail.specs.declared.cells.Saved.{Saved}
 use Rattle.ht_trail.specs.Trails.{CellsState}
 use Rattle.ht_tree.specs.declared.token.Assign3.{Assign3}
-use Rattle.ht_tree.specs.Windows.{SearchWindow}
+use Rattle.ht_tree.specs.Window.Windows.{SearchWindow}
 use Rattle.ht_relevant.specs.Near.{RelevantState}
 use Rattle.ht_window.specs.Cells.{IsHistory, decision_mark}
 use Rattle.ht_window.specs.States.{WindowState, mark_before, undone}

@@ -8,13 +8,13 @@ use Rattle.ht_tree.specs.declared.token.Choice.{Choice}
 use Rattle.ht_tree.specs.declared.token.Choice.TheVariants as choice
 use Rattle.ht_tree.specs.declared.token.Status3.TheVariants as status3
 use Rattle.ht_tree.specs.declared.window.Status.TheVariants.{Open}
-use Rattle.ht_tree.specs.Walks.{Node, Fits, decides, path_of}
-use Rattle.ht_tree.specs.Searches.{guide_of, deciding_token}
-use Rattle.ht_tree.specs.Windows.{SearchWindow}
-use Rattle.ht_tree.specs.WindowStatus.{status_at, without_place}
-use Rattle.ht_tree.specs.Variables.{IsLegalChoice, may_two, may_three}
-use Rattle.ht_tree.specs.Nodes.{window_at, may_go_before}
-use Rattle.ht_tree.specs.WalkBack.{pick_of}
+use Rattle.ht_tree.specs.Walk.Walks.{Node, Fits, decides, path_of}
+use Rattle.ht_tree.specs.Walk.Searches.{guide_of, deciding_token}
+use Rattle.ht_tree.specs.Window.Windows.{SearchWindow}
+use Rattle.ht_tree.specs.Window.WindowStatus.{status_at, without_place}
+use Rattle.ht_tree.specs.Window.Variables.{IsLegalChoice, may_two, may_three}
+use Rattle.ht_tree.specs.Window.Nodes.{window_at, may_go_before}
+use Rattle.ht_tree.specs.Window.WalkBack.{pick_of}
 use Rattle.ht_search.specs.Legal.{MayDecide}
 use Rattle.ht_window.specs.States.{IsLegalDecision}
 

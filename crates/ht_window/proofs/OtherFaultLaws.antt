@@ -7,16 +7,16 @@ use Rattle.ht_pairs.specs.Pairs.{Pair, pair, lifted_set, stuck_set}
 use Rattle.ht_net.specs.declared.fault.Site.{Site}
 use Rattle.ht_net.specs.declared.fault.Site.TheVariants.{Stem, DffPin, GatePin}
 use Rattle.ht_net.specs.declared.fault.Fault.{Fault}
-use Rattle.ht_net.specs.Netlist.{Netlist, net_count, first_gate_net, gate_at, no_net}
-use Rattle.ht_net.specs.Frame.{net_value, net_value_over, driver_value, gate_output, next_state}
-use Rattle.ht_net.specs.Faults.{forced}
+use Rattle.ht_net.specs.Circuit.Netlist.{Netlist, net_count, first_gate_net, gate_at, no_net}
+use Rattle.ht_net.specs.Frames.Frame.{net_value, net_value_over, driver_value, gate_output, next_state}
+use Rattle.ht_net.specs.Frames.Faults.{forced}
 use Rattle.ht_net.proofs.FrameLaws.{le_or_lt, driven_input, driven_latch, driven_gate}
 use Rattle.ht_net.proofs.ValueLaws.{taken_get}
 use Rattle.ht_frame.specs.StuckPins.{is_at_gate, is_pin_of}
 use Rattle.ht_frame.proofs.PinLaws.{plain_pins}
 use Rattle.ht_tree.specs.declared.token.Assign3.{Assign3}
-use Rattle.ht_tree.specs.Decisions.{is_in, decided_value, latch_pairs, latch_values_left}
-use Rattle.ht_tree.specs.Windows.{SearchWindow, Start, one_frame, unknown, state_pair, back, IsWindow, first_latch, frame_inputs, pair_set_rules, latches_at}
+use Rattle.ht_tree.specs.Window.Decisions.{is_in, decided_value, latch_pairs, latch_values_left}
+use Rattle.ht_tree.specs.Window.Windows.{SearchWindow, Start, one_frame, unknown, state_pair, back, IsWindow, first_latch, frame_inputs, pair_set_rules, latches_at}
 use Rattle.ht_relevant.specs.Relevant.{IsClosedBack}
 use Rattle.ht_window.specs.Cells.{env_at, blank, latches_over, value_over, HoldsValue, AreCells}
 use Rattle.ht_window.specs.Standing.{Standing}

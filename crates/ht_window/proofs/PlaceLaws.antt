@@ -5,8 +5,8 @@ use Rattle.std.proofs.Math.Nat.{mul-le-mul_right, div-lt_iff_lt-mul, mod-lt, suc
 use Rattle.std.proofs.lemmas.List.{get_or-set_same, get_or-set_other}
 use Rattle.std.proofs.lemmas.Bool.Decides.{eqb_tells}
 use Rattle.ht_pairs.specs.Pairs.{Pair}
-use Rattle.ht_net.specs.Netlist.{net_count}
-use Rattle.ht_tree.specs.Windows.{SearchWindow}
+use Rattle.ht_net.specs.Circuit.Netlist.{net_count}
+use Rattle.ht_tree.specs.Window.Windows.{SearchWindow}
 use Rattle.ht_window.specs.Cells.{cell_index, cell_count, env_at, blank}
 
 -- rows of n: the place of x in row f is told apart from the others

@@ -1,8 +1,8 @@
 -- What reads a net of a frame.
 use Rattle.std.proofs.Common.{◌≡◌, ◌≢◌, ◌<◌, ◌≤◌, ◌+◌, ◌-◌, inl, inr, ℕ, suc, List, length, get_or, sym, ◌∙◌, ap, arith}
 use Rattle.std.proofs.lemmas.Bool.Decides.{nat_tests}
-use Rattle.ht_net.specs.Netlist.{Netlist, net_count, first_gate_net, gate_at, arg_at, no_net, IsCircuit}
-use Rattle.ht_net.specs.Frame.{Rules, net_value_over}
+use Rattle.ht_net.specs.Circuit.Netlist.{Netlist, net_count, first_gate_net, gate_at, arg_at, no_net, IsCircuit}
+use Rattle.ht_net.specs.Frames.Frame.{Rules, net_value_over}
 use Rattle.ht_net.proofs.FrameLaws.{le_or_lt, driven_input, driven_latch, driven_gate, gate_same}
 use Rattle.ht_events.specs.Items.{item_at, frame_items, reader_frame, IsReader, IsGateOn, ReadsNet}
 use Rattle.ht_events.proofs.ItemLaws.{reads_known}

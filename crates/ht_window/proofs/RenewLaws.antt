@@ -3,13 +3,13 @@ use Rattle.std.proofs.Common.{◌≡◌, ◌≢◌, ◌<◌, ◌≤◌, ◌+◌,
 use Rattle.std.proofs.lemmas.Bool.{cases_Bool}
 use Rattle.std.proofs.lemmas.Bool.Decides.{eqb_tells}
 use Rattle.ht_pairs.specs.Pairs.{Pair}
-use Rattle.ht_net.specs.Netlist.{Netlist, net_count, first_gate_net}
+use Rattle.ht_net.specs.Circuit.Netlist.{Netlist, net_count, first_gate_net}
 use Rattle.ht_net.specs.declared.fault.Fault.{Fault}
 use Rattle.ht_net.proofs.FrameLaws.{le_or_lt}
 use Rattle.ht_events.specs.Items.{item_at, item_count, frame_of, local_of, driven_net, IsReader}
 use Rattle.ht_events.specs.Plans.{PlanState}
 use Rattle.ht_events.specs.Pending.{CoreState, IsPending, QuietAgree, core_items}
-use Rattle.ht_tree.specs.Windows.{SearchWindow, IsWindow}
+use Rattle.ht_tree.specs.Window.Windows.{SearchWindow, IsWindow}
 use Rattle.ht_window.specs.Standing.{Standing}
 use Rattle.ht_window.specs.Cells.{cell_index, cell_count, value_over, HoldsValue, AreCells}
 use Rattle.ht_relevant.specs.Near.{RelevantState}

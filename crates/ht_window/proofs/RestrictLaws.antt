@@ -2,8 +2,8 @@
 -- nets do.
 use Rattle.std.proofs.Common.{◌≡◌, ◌<◌, ◌+◌, ◌∙◌, ℕ, List, Bool, true, false, Option, None, not, get_or, refl, sym, ap, arith}
 use Rattle.std.proofs.lemmas.Bool.{false≢true}
-use Rattle.ht_tree.specs.Decisions.{is_in}
-use Rattle.ht_tree.specs.Windows.{SearchWindow, Start, one_frame}
+use Rattle.ht_tree.specs.Window.Decisions.{is_in}
+use Rattle.ht_tree.specs.Window.Windows.{SearchWindow, Start, one_frame}
 use Rattle.ht_relevant.specs.Near.{RelevantState}
 use Rattle.ht_relevant.specs.Reached.{may_begin_apart}
 use Rattle.ht_relevant.specs.Relevant.{IsRelevant, counts_state}

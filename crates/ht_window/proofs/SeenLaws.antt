@@ -9,15 +9,15 @@ use Rattle.std.proofs.lemmas.List.Folds.{find-append}
 use Rattle.ht_pairs.specs.Pairs.{Pair, pair}
 use Rattle.ht_tern.specs.declared.tern.Tern.TheVariants.{Unk}
 use Rattle.ht_net.specs.declared.net.NetId.{NetId}
-use Rattle.ht_net.specs.Netlist.{Netlist, no_net}
-use Rattle.ht_net.specs.Frame.{next_state}
+use Rattle.ht_net.specs.Circuit.Netlist.{Netlist, no_net}
+use Rattle.ht_net.specs.Frames.Frame.{next_state}
 use Rattle.ht_net.proofs.ValueLaws.{taken_get}
 use Rattle.ht_tree.specs.declared.window.Spot.TheVariants.{Output, State}
 use Rattle.ht_tree.specs.declared.token.Assign3.{Assign3}
 use Rattle.ht_tree.specs.declared.window.WindowPlace.{WindowPlace}
-use Rattle.ht_tree.specs.Windows.{SearchWindow, latches_at, cell_at, pair_set_rules}
-use Rattle.ht_tree.specs.Decisions.{is_in}
-use Rattle.ht_tree.specs.Places.{set_at, spot_net}
+use Rattle.ht_tree.specs.Window.Windows.{SearchWindow, latches_at, cell_at, pair_set_rules}
+use Rattle.ht_tree.specs.Window.Decisions.{is_in}
+use Rattle.ht_tree.specs.Window.Places.{set_at, spot_net}
 use Rattle.ht_relevant.specs.Alike.{IsAlike}
 use Rattle.ht_relevant.specs.Relevant.{IsRelevant, counts_state}
 use Rattle.ht_relevant.proofs.AlikeLaws.{none_differs, not_all_differ}

@@ -3,9 +3,9 @@ use Rattle.std.proofs.Common.{◌≡◌, ◌<◌, ◌+◌, ℕ, suc, zero, List,
 use Rattle.std.proofs.lemmas.Bool.Decides.{eqb_tells}
 use Rattle.ht_tern.specs.declared.tern.Tern.{Tern}
 use Rattle.ht_pairs.specs.Pairs.{Pair}
-use Rattle.ht_net.specs.Netlist.{first_gate_net}
-use Rattle.ht_tree.specs.Decisions.{is_in, decided_value, latch_pairs}
-use Rattle.ht_tree.specs.Windows.{Start, one_frame, first_latch}
+use Rattle.ht_net.specs.Circuit.Netlist.{first_gate_net}
+use Rattle.ht_tree.specs.Window.Decisions.{is_in, decided_value, latch_pairs}
+use Rattle.ht_tree.specs.Window.Windows.{Start, one_frame, first_latch}
 use Rattle.ht_window.specs.Starts.{marked}
 use Rattle.ht_window.specs.Standing.{Standing}
 

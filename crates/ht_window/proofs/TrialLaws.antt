@@ -4,14 +4,14 @@ use Rattle.ht_tern.specs.declared.tern.Tern.{Tern}
 use Rattle.ht_tree.specs.declared.token.Assign3.{Assign3}
 use Rattle.ht_tree.specs.declared.token.Choice.{Choice}
 use Rattle.ht_tree.specs.declared.token.Status3.TheVariants as status3
-use Rattle.ht_tree.specs.Walks.{Node, Fits, decides, path_of}
-use Rattle.ht_tree.specs.Searches.{guide_of, deciding_token}
-use Rattle.ht_tree.specs.Windows.{SearchWindow}
-use Rattle.ht_tree.specs.WindowStatus.{status_at, without_place}
-use Rattle.ht_tree.specs.Variables.{IsLegalChoice}
-use Rattle.ht_tree.specs.Nodes.{window_at}
-use Rattle.ht_tree.specs.Counts.{seeks_difference}
-use Rattle.ht_tree.specs.WalkBack.{pick_of}
+use Rattle.ht_tree.specs.Walk.Walks.{Node, Fits, decides, path_of}
+use Rattle.ht_tree.specs.Walk.Searches.{guide_of, deciding_token}
+use Rattle.ht_tree.specs.Window.Windows.{SearchWindow}
+use Rattle.ht_tree.specs.Window.WindowStatus.{status_at, without_place}
+use Rattle.ht_tree.specs.Window.Variables.{IsLegalChoice}
+use Rattle.ht_tree.specs.Window.Nodes.{window_at}
+use Rattle.ht_tree.specs.Walk.Counts.{seeks_difference}
+use Rattle.ht_tree.specs.Window.WalkBack.{pick_of}
 use Rattle.ht_tree.proofs.DifferenceLaws.{window_stays}
 use Rattle.ht_search.specs.Legal.{MayDecide}
 use Rattle.ht_search.specs.WindowSteps.{node_of, steps_under}

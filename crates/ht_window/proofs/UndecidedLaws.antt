@@ -3,10 +3,10 @@ use Rattle.std.proofs.Common.{◌≡◌, ◌≢◌, ◌<◌, ◌≤◌, ◌+◌,
 use Rattle.std.proofs.lemmas.List.FromFn.{get_or-map-range_with_len}
 use Rattle.ht_pairs.specs.Pairs.{Pair, pair}
 use Rattle.ht_pairs.specs.Decided.{same_pairs}
-use Rattle.ht_net.specs.Netlist.{net_count, first_gate_net}
+use Rattle.ht_net.specs.Circuit.Netlist.{net_count, first_gate_net}
 use Rattle.ht_tree.specs.declared.token.Assign3.{Assign3}
-use Rattle.ht_tree.specs.Decisions.{is_in, latch_pairs, latch_values_left}
-use Rattle.ht_tree.specs.Windows.{input_set, SearchWindow, Start, one_frame, unknown, state_pair, back, IsWindow, IsStart, first_input, first_latch, frame_inputs, pair_set_rules}
+use Rattle.ht_tree.specs.Window.Decisions.{is_in, latch_pairs, latch_values_left}
+use Rattle.ht_tree.specs.Window.Windows.{input_set, SearchWindow, Start, one_frame, unknown, state_pair, back, IsWindow, IsStart, first_input, first_latch, frame_inputs, pair_set_rules}
 use Rattle.ht_window.specs.Cells.{env_at, blank, latches_over, HoldsValue, var_frame, var_net}
 use Rattle.ht_window.proofs.ReaderLaws.{over_same}
 use Rattle.ht_window.proofs.VariableLaws.{decided_other, input_frame, input_net, only_frame, high_frame, good_net, faulty_net}

@@ -6,7 +6,7 @@ use Rattle.ht_tern.specs.declared.tern.Tern.{Tern}
 use Rattle.ht_trail.specs.Trails.{CellsState, IsLater, at_mark, restored}
 use Rattle.ht_trail.proofs.TrailLaws.{later_mark, mark_now, undone_mark}
 use Rattle.ht_tree.specs.declared.token.Assign3.{Assign3}
-use Rattle.ht_tree.specs.Decisions.{decided_value}
+use Rattle.ht_tree.specs.Window.Decisions.{decided_value}
 use Rattle.ht_tree.proofs.WrittenLaws.{written_more}
 use Rattle.ht_window.specs.Standing.{IsValueHistory}
 

@@ -2,10 +2,10 @@
 use Rattle.std.proofs.Common.{◌≡◌, ◌≢◌, ◌<◌, ◌≤◌, ◌+◌, ◌-◌, ◌*◌, inl, inr, ℕ, List, [], ◌∷◌, ◌++◌, Bool, Some, cond, length, sym, ◌∙◌, ap, arith}
 use Rattle.std.proofs.lemmas.Nat.{div-mul-add, mod-mul-add}
 use Rattle.std.proofs.lemmas.Bool.Decides.{nat_tests, eqb_tells}
-use Rattle.ht_net.specs.Netlist.{first_gate_net}
+use Rattle.ht_net.specs.Circuit.Netlist.{first_gate_net}
 use Rattle.ht_tree.specs.declared.token.Assign3.{Assign3}
-use Rattle.ht_tree.specs.Decisions.{decided_value}
-use Rattle.ht_tree.specs.Windows.{SearchWindow, first_input}
+use Rattle.ht_tree.specs.Window.Decisions.{decided_value}
+use Rattle.ht_tree.specs.Window.Windows.{SearchWindow, first_input}
 use Rattle.ht_tree.proofs.WrittenLaws.{decided_more}
 use Rattle.ht_window.specs.Cells.{var_frame, var_net}
 use Rattle.ht_window.proofs.PlaceLaws.{rows_inside}

@@ -4,15 +4,15 @@ use Rattle.std.specs.Prelude.{ltb}
 use Rattle.std.proofs.lemmas.Bool.{cond-false, cond-true, le-ltb, lt-ltb}
 use Rattle.ht_pairs.specs.Pairs.{Pair}
 use Rattle.ht_net.specs.declared.net.NetId.{NetId}
-use Rattle.ht_net.specs.Netlist.{Netlist, IsCircuit, first_gate_net, net_count, gate_at, no_net}
-use Rattle.ht_net.specs.Frame.{Rules}
+use Rattle.ht_net.specs.Circuit.Netlist.{Netlist, IsCircuit, first_gate_net, net_count, gate_at, no_net}
+use Rattle.ht_net.specs.Frames.Frame.{Rules}
 use Rattle.ht_net.proofs.DepthLaws.{circuit_depth}
 use Rattle.ht_tree.specs.declared.token.Assign3.{Assign3}
 use Rattle.ht_tree.specs.declared.window.Spot.TheVariants.{State}
 use Rattle.ht_tree.specs.declared.token.Choice.TheVariants.{Two}
-use Rattle.ht_tree.specs.Windows.{SearchWindow, first_input, cell_at, is_undetermined}
-use Rattle.ht_tree.specs.Places.{spot_net}
-use Rattle.ht_tree.specs.WalkBack.{Wanted, undetermined_argument, bit_before, back_over, end_in_frame, latch_choice, choice_at}
+use Rattle.ht_tree.specs.Window.Windows.{SearchWindow, first_input, cell_at, is_undetermined}
+use Rattle.ht_tree.specs.Window.Places.{spot_net}
+use Rattle.ht_tree.specs.Window.WalkBack.{Wanted, undetermined_argument, bit_before, back_over, end_in_frame, latch_choice, choice_at}
 use Rattle.ht_relevant.specs.Relevant.{IsClosedBack}
 use Rattle.ht_tree.proofs.ChoiceLaws.{ends_undetermined, latch_undetermined, before_undetermined}
 

@@ -1,8 +1,8 @@
 -- Windows from which others are made.
 use Rattle.std.specs.Prelude.{◌≡◌, ◌≤◌, [], None}
 use Rattle.std.specs.List.{All}
-use Rattle.ht_net.specs.Netlist.{Netlist}
-use Rattle.ht_tree.specs.Windows.{SearchWindow, IsStart}
+use Rattle.ht_net.specs.Circuit.Netlist.{Netlist}
+use Rattle.ht_tree.specs.Window.Windows.{SearchWindow, IsStart}
 use Rattle.ht_window.specs.Starts.{start_of}
 use Rattle.ht_window.specs.States.{WindowState}
 use Rattle.ht_window.specs.declared.setup.Setup.{Setup}

@@ -2,11 +2,11 @@
 use Rattle.std.specs.Prelude.{◌≡◌, ◌<◌, ◌≤◌, ◌+◌, ◌-◌, ◌*◌, ◌/◌, ◌%◌, ℕ, zero, suc, List, [], ◌∷◌, ◌++◌, Bool, true, cond, ltb, length, get_or, take}
 use Rattle.ht_tern.specs.declared.tern.Tern.TheVariants.{Unk}
 use Rattle.ht_pairs.specs.Pairs.{Pair, pair}
-use Rattle.ht_net.specs.Netlist.{net_count, first_gate_net}
-use Rattle.ht_net.specs.Frame.{net_value_over, data_values}
+use Rattle.ht_net.specs.Circuit.Netlist.{net_count, first_gate_net}
+use Rattle.ht_net.specs.Frames.Frame.{net_value_over, data_values}
 use Rattle.ht_trail.specs.Trails.{CellsState, at_mark}
 use Rattle.ht_tree.specs.declared.token.Assign3.{Assign3}
-use Rattle.ht_tree.specs.Windows.{SearchWindow, cell_at, first_input, first_latches, frame_inputs, pair_set_rules}
+use Rattle.ht_tree.specs.Window.Windows.{SearchWindow, cell_at, first_input, first_latches, frame_inputs, pair_set_rules}
 
 -- the set that stands where the array has no cell
 abbrev pub blank : List Pair

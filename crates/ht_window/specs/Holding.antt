@@ -4,7 +4,7 @@ use Rattle.ht_pairs.specs.Pairs.{Pair}
 use Rattle.ht_trail.specs.Trails.{CellsState, IsLater}
 use Rattle.ht_events.specs.Plans.{max_frames}
 use Rattle.ht_events.specs.Items.{frame_of, local_of, driven_net}
-use Rattle.ht_tree.specs.Windows.{IsWindow}
+use Rattle.ht_tree.specs.Window.Windows.{IsWindow}
 use Rattle.ht_relevant.specs.Near.{RelevantState}
 use Rattle.ht_window.specs.Matters.{is_relevant}
 use Rattle.ht_window.specs.Standing.{Standing}

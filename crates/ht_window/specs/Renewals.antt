@@ -1,11 +1,11 @@
 -- A window whose cells follow another fault and another start: which nets that reaches first, and what holds meanwhile.
 use Rattle.std.specs.Prelude.{◌≡◌, ◌<◌, ◌≤◌, ◌-◌, ℕ, false, Option}
-use Rattle.ht_net.specs.Netlist.{net_count, first_gate_net}
+use Rattle.ht_net.specs.Circuit.Netlist.{net_count, first_gate_net}
 use Rattle.ht_net.specs.declared.fault.Fault.{Fault}
 use Rattle.ht_events.specs.Items.{item_at}
 use Rattle.ht_events.specs.Plans.{PlanState}
 use Rattle.ht_events.specs.Pending.{CoreState, IsPending}
-use Rattle.ht_tree.specs.Windows.{SearchWindow}
+use Rattle.ht_tree.specs.Window.Windows.{SearchWindow}
 use Rattle.ht_relevant.specs.Reached.{begins_at}
 use Rattle.ht_window.specs.Cells.{HoldsValue}
 use Rattle.ht_window.specs.Holding.{HeldState, MayHold}

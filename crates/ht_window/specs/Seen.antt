@@ -7,9 +7,9 @@ use Rattle.ht_tern.specs.declared.tern.Tern.{Tern}
 use Rattle.ht_pairs.specs.Pairs.{Pair, pair, is_member, differs}
 use Rattle.ht_tree.specs.declared.token.Assign3.{Assign3}
 use Rattle.ht_tree.specs.declared.window.WindowPlace.{WindowPlace}
-use Rattle.ht_tree.specs.Windows.{SearchWindow, is_undetermined}
-use Rattle.ht_tree.specs.Places.{set_at}
-use Rattle.ht_tree.specs.WindowStatus.{must_meet, may_meet}
+use Rattle.ht_tree.specs.Window.Windows.{SearchWindow, is_undetermined}
+use Rattle.ht_tree.specs.Window.Places.{set_at}
+use Rattle.ht_tree.specs.Window.WindowStatus.{must_meet, may_meet}
 use Rattle.ht_tree.specs.declared.window.Spot.TheVariants.{State, Cube}
 use Rattle.ht_tree.specs.declared.window.Status.{Status}
 use Rattle.ht_tree.specs.declared.window.Status.TheVariants.{Dead, Sure, Open}

@@ -1,8 +1,8 @@
 -- What a window is made for.
 use Rattle.std.specs.Prelude.{◌≤◌}
-use Rattle.ht_net.specs.Netlist.{Netlist}
+use Rattle.ht_net.specs.Circuit.Netlist.{Netlist}
 use Rattle.ht_events.specs.Plans.{max_frames}
-use Rattle.ht_tree.specs.Windows.{SearchWindow, IsStart}
+use Rattle.ht_tree.specs.Window.Windows.{SearchWindow, IsStart}
 use Rattle.ht_window.specs.Starts.{start_of, window_from}
 use Rattle.ht_window.specs.declared.setup.Setup.{Setup}
 

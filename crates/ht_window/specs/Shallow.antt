@@ -4,11 +4,11 @@ use Rattle.std.specs.List.{list_any}
 use Rattle.std.proofs.Common.{arith}
 use Rattle.std.proofs.lemmas.Bool.{and_parts}
 use Rattle.std.proofs.lemmas.Bool.Decides.{nat_tests}
-use Rattle.ht_net.specs.Netlist.{Netlist}
-use Rattle.ht_tree.specs.Walks.{Node, path_of}
-use Rattle.ht_tree.specs.Windows.{SearchWindow, Start, one_frame, unknown, state_pair, back}
-use Rattle.ht_tree.specs.WindowStatus.{is_definite}
-use Rattle.ht_tree.specs.Nodes.{before_of_start, cube_of, start_at, judge_of}
+use Rattle.ht_net.specs.Circuit.Netlist.{Netlist}
+use Rattle.ht_tree.specs.Walk.Walks.{Node, path_of}
+use Rattle.ht_tree.specs.Window.Windows.{SearchWindow, Start, one_frame, unknown, state_pair, back}
+use Rattle.ht_tree.specs.Window.WindowStatus.{is_definite}
+use Rattle.ht_tree.specs.Window.Nodes.{before_of_start, cube_of, start_at, judge_of}
 
 below : (limit k : ℕ) (b : Bool) → IsTrue (nat_lt 0 (limit - k) && b) → k < limit
 below limit k b h = let some = (and_parts (nat_lt 0 (limit - k)) b h).0 in grind (arith, nat_tests)

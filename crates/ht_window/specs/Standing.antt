@@ -4,8 +4,8 @@ use Rattle.ht_tern.specs.declared.tern.Tern.{Tern}
 use Rattle.ht_trail.specs.Trails.{CellsState, at_mark}
 use Rattle.ht_events.specs.Plans.{max_frames}
 use Rattle.ht_tree.specs.declared.token.Assign3.{Assign3}
-use Rattle.ht_tree.specs.Decisions.{decided_value}
-use Rattle.ht_tree.specs.Windows.{SearchWindow, IsWindow}
+use Rattle.ht_tree.specs.Window.Decisions.{decided_value}
+use Rattle.ht_tree.specs.Window.Windows.{SearchWindow, IsWindow}
 use Rattle.ht_window.specs.Starts.{start_of}
 use Rattle.ht_window.specs.declared.decisions.Decisions.TheInside.{Inside}
 

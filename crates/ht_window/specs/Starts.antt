@@ -1,8 +1,8 @@
 -- A start as the definitions of windows see it.
 use Rattle.std.specs.Prelude.{◌+◌, ℕ, List, [], ◌∷◌, Bool, cond, Option}
-use Rattle.ht_net.specs.Netlist.{Netlist}
+use Rattle.ht_net.specs.Circuit.Netlist.{Netlist}
 use Rattle.ht_net.specs.declared.fault.Fault.{Fault}
-use Rattle.ht_tree.specs.Windows as window
+use Rattle.ht_tree.specs.Window.Windows as window
 use Rattle.ht_window.specs.declared.start.Start.{Start}
 use Rattle.ht_window.specs.declared.start.Start.TheVariants.{OneFrame, Unknown, Pair, Back}
 

@@ -1,10 +1,10 @@
 //! The walk back from a net to an undecided variable.
 ghost use Rattle.std.specs.Prelude.{◌≡◌, ◌<◌, ◌≤◌, ◌+◌, ℕ, true, length};
-ghost use Rattle.ht_net.specs.Netlist.{first_gate_net, gate_at, net_count};
-ghost use Rattle.ht_tree.specs.Windows.{cell_at, pair_set_rules};
-ghost use Rattle.ht_tree.specs.Variables.{IsLegalChoice};
-ghost use Rattle.ht_tree.specs.WalkBack.{choice_at, end_in_frame, latch_choice, undetermined_argument, bit_before, walk_back};
-ghost use Rattle.ht_tree.specs.Walks.{decides};
+ghost use Rattle.ht_net.specs.Circuit.Netlist.{first_gate_net, gate_at, net_count};
+ghost use Rattle.ht_tree.specs.Window.Windows.{cell_at, pair_set_rules};
+ghost use Rattle.ht_tree.specs.Window.Variables.{IsLegalChoice};
+ghost use Rattle.ht_tree.specs.Window.WalkBack.{choice_at, end_in_frame, latch_choice, undetermined_argument, bit_before, walk_back};
+ghost use Rattle.ht_tree.specs.Walk.Walks.{decides};
 ghost use Rattle.ht_window.specs.Matters.{is_relevant};
 ghost use Rattle.ht_window.specs.WantedOf.{wanted_of};
 

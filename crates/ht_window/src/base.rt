@@ -1,6 +1,6 @@
 //! Windows before their first decision, one made from another.
 ghost use Rattle.std.specs.Prelude.{◌≡◌, ◌≤◌, ◌<◌, IsTrue, None, [], IfOk};
-ghost use Rattle.ht_tree.specs.Windows.{IsStart};
+ghost use Rattle.ht_tree.specs.Window.Windows.{IsStart};
 ghost use Rattle.ht_relevant.specs.Relevant.{IsRelevant};
 ghost use Rattle.ht_window.specs.Starts.{start_of};
 ghost use Rattle.ht_window.specs.Setups.{IsSetup, window_for};

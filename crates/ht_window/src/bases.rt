@@ -1,6 +1,6 @@
 //! Windows from which others are made, one for each kind of start.
 ghost use Rattle.std.specs.Prelude.{◌≡◌, ◌<◌, ◌≤◌, [], length, IfOk, IfSome};
-ghost use Rattle.ht_tree.specs.Windows.{IsStart};
+ghost use Rattle.ht_tree.specs.Window.Windows.{IsStart};
 ghost use Rattle.ht_window.specs.Starts.{start_of, window_from};
 ghost use Rattle.ht_window.specs.Setups.{IsSetup, window_for};
 ghost use Rattle.ht_window.specs.BaseStates.{BasesState, IsBase, IsBaseFor, IsNew};

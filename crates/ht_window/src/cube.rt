@@ -1,8 +1,8 @@
 //! What the next states of the latches of a cube show.
 ghost use Rattle.std.specs.Prelude.{◌≡◌, None};
 ghost use Rattle.ht_pairs.specs.Pairs.{is_member, pair};
-ghost use Rattle.ht_tree.specs.Windows.{is_undetermined};
-ghost use Rattle.ht_tree.specs.WindowStatus.{cube_latches, is_definite};
+ghost use Rattle.ht_tree.specs.Window.Windows.{is_undetermined};
+ghost use Rattle.ht_tree.specs.Window.WindowStatus.{cube_latches, is_definite};
 ghost use Rattle.ht_window.specs.Seen.{cube_seen_of, cube_seen_with, cube_status_by};
 
 use crate::decisions::value_at;

@@ -2,9 +2,9 @@
 ghost use Rattle.std.specs.Prelude.{◌≡◌, ◌<◌, ◌≤◌, ◌+◌, ◌++◌, ◌∷◌, ℕ, [], None, false, take, length, get_or, IfOk, OnOk, OnErr};
 ghost use Rattle.ht_tern.specs.declared.tern.Tern.TheVariants.{Unk};
 ghost use Rattle.ht_pairs.specs.Decided.{same_pairs};
-ghost use Rattle.ht_tree.specs.Decisions.{decided_value};
-ghost use Rattle.ht_tree.specs.Windows.{IsStart, IsWindow, first_input, first_latch};
-ghost use Rattle.ht_tree.specs.Walks.{decides};
+ghost use Rattle.ht_tree.specs.Window.Decisions.{decided_value};
+ghost use Rattle.ht_tree.specs.Window.Windows.{IsStart, IsWindow, first_input, first_latch};
+ghost use Rattle.ht_tree.specs.Walk.Walks.{decides};
 ghost use Rattle.ht_window.specs.Starts.{start_of, window_from};
 ghost use Rattle.ht_window.specs.Standing.{variable_room};
 

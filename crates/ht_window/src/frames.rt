@@ -1,7 +1,7 @@
 //! The sets of a whole window, frame by frame.
 ghost use Rattle.std.specs.Prelude.{◌≡◌, ◌<◌, ◌≤◌, ◌+◌, ℕ, None, length, get_or, IfOk};
-ghost use Rattle.ht_net.specs.Netlist.{net_count};
-ghost use Rattle.ht_tree.specs.Windows.{cell_at, first_latches, frame_inputs, latches_at};
+ghost use Rattle.ht_net.specs.Circuit.Netlist.{net_count};
+ghost use Rattle.ht_tree.specs.Window.Windows.{cell_at, first_latches, frame_inputs, latches_at};
 ghost use Rattle.ht_window.specs.Cells.{AreCells, blank, cell_count};
 ghost use Rattle.ht_window.specs.Matters.{is_relevant};
 

@@ -2,10 +2,10 @@
 ghost use Rattle.std.specs.Prelude.{◌≡◌, IsTrue, None, Some, ◌*◌, ◌<◌, ◌≤◌, ◌+◌, ◌++◌, ◌∷◌, ℕ, List, [], take, drop, set, length, get_or, IfOk, OnOk, OnErr};
 ghost use Rattle.ht_tern.specs.declared.tern.Tern.TheVariants.{Unk};
 ghost use Rattle.ht_pairs.specs.Pairs.{Pair, pair};
-ghost use Rattle.ht_net.specs.Netlist.{net_count, first_gate_net};
-ghost use Rattle.ht_net.specs.Frame.{driver_value};
+ghost use Rattle.ht_net.specs.Circuit.Netlist.{net_count, first_gate_net};
+ghost use Rattle.ht_net.specs.Frames.Frame.{driver_value};
 ghost use Rattle.ht_trail.specs.Trails.{CellsState, IsLater, restored};
-ghost use Rattle.ht_tree.specs.Windows.{IsWindow, first_input, frame_inputs, pair_set_rules};
+ghost use Rattle.ht_tree.specs.Window.Windows.{IsWindow, first_input, frame_inputs, pair_set_rules};
 ghost use Rattle.ht_window.specs.Standing.{variable_room};
 ghost use Rattle.ht_window.specs.Cells.{cell_index, cell_count, env_at, latches_over, value_over, var_frame, var_net, HoldsValue};
 ghost use Rattle.ht_window.specs.Matters.{is_relevant};

@@ -1,9 +1,9 @@
 //! The first place of a window that shows a difference.
 ghost use Rattle.std.specs.Prelude.{◌≡◌, ◌<◌, true, length, IfSome};
 ghost use Rattle.std.specs.List.{find};
-ghost use Rattle.ht_tree.specs.Windows.{one_frame};
+ghost use Rattle.ht_tree.specs.Window.Windows.{one_frame};
 ghost use Rattle.ht_tree.specs.declared.window.Spot.TheVariants.{Output, State};
-ghost use Rattle.ht_tree.specs.Places.{output_places, places_of, set_at, spot_net, state_places};
+ghost use Rattle.ht_tree.specs.Window.Places.{output_places, places_of, set_at, spot_net, state_places};
 ghost use Rattle.ht_relevant.specs.Relevant.{counts_state};
 ghost use Rattle.ht_window.specs.Starts.{marked};
 ghost use Rattle.ht_window.specs.Matters.{is_relevant};

@@ -1,6 +1,6 @@
 //! Cells that follow another fault and another start by events.
 ghost use Rattle.std.specs.Prelude.{◌≡◌, ◌<◌, ◌≤◌, ◌+◌, ℕ, true, Some, OnOk, IfSome};
-ghost use Rattle.ht_net.specs.Netlist.{net_count, first_gate_net};
+ghost use Rattle.ht_net.specs.Circuit.Netlist.{net_count, first_gate_net};
 ghost use Rattle.ht_relevant.specs.Reached.{begins_at, leads_to};
 ghost use Rattle.ht_relevant.specs.Relevant.{IsClosedBack};
 ghost use Rattle.ht_window.specs.Cells.{AreCells};

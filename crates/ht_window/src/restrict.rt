@@ -1,7 +1,7 @@
 //! The nets that matter to a window of a fault.
 ghost use Rattle.std.specs.Prelude.{◌≡◌, ◌<◌, ◌≤◌, ℕ, false, not, Some, None, get_or, IfOk, OnOk};
-ghost use Rattle.ht_net.specs.Netlist.{Netlist};
-ghost use Rattle.ht_tree.specs.Windows.{IsWindow};
+ghost use Rattle.ht_net.specs.Circuit.Netlist.{Netlist};
+ghost use Rattle.ht_tree.specs.Window.Windows.{IsWindow};
 ghost use Rattle.ht_relevant.specs.Near.{matters};
 ghost use Rattle.ht_relevant.specs.Relevant.{IsRelevant};
 ghost use Rattle.ht_tern.specs.declared.tern.Tern.TheVariants.{Unk};

@@ -1,7 +1,7 @@
 //! The sets of inputs and latches.
 ghost use Rattle.std.specs.Prelude.{◌≡◌, map};
 ghost use Rattle.ht_pairs.specs.Pairs.{pair};
-ghost use Rattle.ht_tree.specs.Decisions.{latch_pairs, latch_values_left};
+ghost use Rattle.ht_tree.specs.Window.Decisions.{latch_pairs, latch_values_left};
 
 use ht_pairs::PairSet;
 use ht_tern::Tern;

@@ -1,13 +1,13 @@
 //! The status of a window, and the choice of the next variable.
 ghost use Rattle.std.specs.Prelude.{◌≡◌, ◌<◌, ℕ, true, Some, None, IfSome, length};
-ghost use Rattle.ht_net.specs.Netlist.{net_count};
+ghost use Rattle.ht_net.specs.Circuit.Netlist.{net_count};
 ghost use Rattle.ht_tree.specs.declared.window.WindowPlace.{WindowPlace};
 ghost use Rattle.ht_tree.specs.declared.window.Spot.TheVariants.{Output, State};
 ghost use Rattle.ht_tree.specs.declared.window.Status.TheVariants.{Open};
-ghost use Rattle.ht_tree.specs.Places.{IsSpot, spot_net};
-ghost use Rattle.ht_tree.specs.WindowStatus.{difference_status, status_at};
-ghost use Rattle.ht_tree.specs.Variables.{IsLegalChoice};
-ghost use Rattle.ht_tree.specs.WalkBack.{CanWalk, from_latch, from_place, pick_of};
+ghost use Rattle.ht_tree.specs.Window.Places.{IsSpot, spot_net};
+ghost use Rattle.ht_tree.specs.Window.WindowStatus.{difference_status, status_at};
+ghost use Rattle.ht_tree.specs.Window.Variables.{IsLegalChoice};
+ghost use Rattle.ht_tree.specs.Window.WalkBack.{CanWalk, from_latch, from_place, pick_of};
 ghost use Rattle.ht_window.specs.Matters.{is_relevant};
 
 use crate::decisions::value_at;

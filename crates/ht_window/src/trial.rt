@@ -1,9 +1,9 @@
 //! The search of one window.
 ghost use Rattle.std.specs.Prelude.{◌≡◌, ◌<◌, ◌*◌, ◌≤◌, ℕ, [], true, IfOk};
-ghost use Rattle.ht_tree.specs.Walks.{Node, root};
-ghost use Rattle.ht_tree.specs.WindowStatus.{without_place};
-ghost use Rattle.ht_tree.specs.Searches.{guide_of, node_at};
-ghost use Rattle.ht_tree.specs.Counts.{Measures, most_tokens, seeks_difference};
+ghost use Rattle.ht_tree.specs.Walk.Walks.{Node, root};
+ghost use Rattle.ht_tree.specs.Window.WindowStatus.{without_place};
+ghost use Rattle.ht_tree.specs.Walk.Searches.{guide_of, node_at};
+ghost use Rattle.ht_tree.specs.Walk.Counts.{Measures, most_tokens, seeks_difference};
 ghost use Rattle.ht_search.specs.Outcomes.{IsClosed, IsOutcome, IsSpent};
 ghost use Rattle.ht_search.specs.WindowSteps.{route_of, steps_under};
 ghost use Rattle.ht_window.specs.Shallow.{window_shallow};
@@ -34,7 +34,7 @@ pub fn without_place(status: Status) -> Status3
 }
 
 impl<'c> Problem for Trial<'c> {
-    ghost use Rattle.ht_tree.specs.Windows.{SearchWindow};
+    ghost use Rattle.ht_tree.specs.Window.Windows.{SearchWindow};
 
     ghost Subject = { SearchWindow };
 

@@ -1,6 +1,6 @@
 //! The vectors that the decisions of a window give.
 ghost use Rattle.std.specs.Prelude.{◌≡◌, ◌≤◌, ◌<◌, IfOk};
-ghost use Rattle.ht_tree.specs.FoundLists.{bit_or_zero, list_of, vector_of};
+ghost use Rattle.ht_tree.specs.Walk.FoundLists.{bit_or_zero, list_of, vector_of};
 
 use crate::window::Window;
 use ht_net::Vectors;

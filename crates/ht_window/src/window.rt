@@ -2,13 +2,13 @@
 ghost use Rattle.std.specs.Prelude.{◌≡◌, ◌<◌, ◌≤◌, ◌+◌, ◌++◌, ◌∷◌, ℕ, ◌-◌, [], length, get_or, take, true, false, None, IfOk, OnOk, OnErr};
 ghost use Rattle.ht_tern.specs.declared.tern.Tern.TheVariants.{Unk};
 ghost use Rattle.ht_pairs.specs.Pairs.{Pair, pair};
-ghost use Rattle.ht_net.specs.Netlist.{net_count};
+ghost use Rattle.ht_net.specs.Circuit.Netlist.{net_count};
 ghost use Rattle.ht_trail.specs.Trails.{CellsState, IsLater};
-ghost use Rattle.ht_tree.specs.Decisions.{decided_value};
-ghost use Rattle.ht_tree.specs.Windows.{IsStart, IsWindow, cell_at, first_input, latches_at};
+ghost use Rattle.ht_tree.specs.Window.Decisions.{decided_value};
+ghost use Rattle.ht_tree.specs.Window.Windows.{IsStart, IsWindow, cell_at, first_input, latches_at};
 ghost use Rattle.ht_tree.specs.declared.window.Spot.TheVariants.{State};
-ghost use Rattle.ht_tree.specs.Places.{spot_net};
-ghost use Rattle.ht_tree.specs.Walks.{decides};
+ghost use Rattle.ht_tree.specs.Window.Places.{spot_net};
+ghost use Rattle.ht_tree.specs.Walk.Walks.{decides};
 ghost use Rattle.ht_relevant.specs.Relevant.{IsClosedBack, IsRelevant};
 ghost use Rattle.ht_window.specs.Starts.{start_of, window_from};
 ghost use Rattle.ht_window.specs.Cells.{AreCells};

@@ -1,8 +1,8 @@
 //! When a builder refuses a driver.
 ghost use Rattle.std.specs.Prelude.{◌≡◌, ◌≤◌, ◌+◌, IfErr, IfOk, OnOk};
-ghost use Rattle.ht_net.specs.Draft.{IsName, draft_pins};
-ghost use Rattle.ht_net.specs.Netlist.{max_arguments};
-ghost use Rattle.ht_net.specs.Refusals.{RefusesInput, AcceptsInput, RefusesDff, AcceptsDff, RefusesGate, AcceptsGate};
+ghost use Rattle.ht_net.specs.Build.Draft.{IsName, draft_pins};
+ghost use Rattle.ht_net.specs.Circuit.Netlist.{max_arguments};
+ghost use Rattle.ht_net.specs.Build.Refusals.{RefusesInput, AcceptsInput, RefusesDff, AcceptsDff, RefusesGate, AcceptsGate};
 
 use super::Builder;
 use crate::{Limit, NameId, NetError};

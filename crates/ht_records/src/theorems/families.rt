@@ -4,10 +4,10 @@ ghost use Rattle.ht_tern.specs.declared.tern.Tern.{Tern};
 ghost use Rattle.ht_tern.specs.declared.tern.Tern.TheVariants.{Unk};
 ghost use Rattle.ht_pairs.specs.Pairs.{IsMember, pair};
 ghost use Rattle.ht_net.specs.declared.fault.Fault.{Fault};
-ghost use Rattle.ht_net.specs.Netlist.{Netlist};
-ghost use Rattle.ht_net.specs.Detection.{Detects, DetectsFrom, IsStart, state_from};
-ghost use Rattle.ht_tree.specs.Reached.{AreVectors};
-ghost use Rattle.ht_tree.specs.ClosedFamilies.{Closes, Family};
+ghost use Rattle.ht_net.specs.Circuit.Netlist.{Netlist};
+ghost use Rattle.ht_net.specs.Detect.Detection.{Detects, DetectsFrom, IsStart, state_from};
+ghost use Rattle.ht_tree.specs.Record.Reached.{AreVectors};
+ghost use Rattle.ht_tree.specs.Record.ClosedFamilies.{Closes, Family};
 
 /// Where a family closes for a fault and a start, the pair of each latch of the good and of the faulty machine is in
 /// its set after every list of vectors, and no list detects the fault: from the start, or from all-unknown.

@@ -3,7 +3,7 @@ use Rattle.std.proofs.lemmas.Result.{IfOk-weaker}
 use Rattle.std.specs.Prelude.{None, Option}
 use Rattle.ht_app.proofs.Common.{Extra, HasReadTo, InPort, SaysBasis, Tern, input_name, order_of, respond}
 use Rattle.ht_ports.specs.declared.ports.InPort.TheVariants.{Netlist, Tests}
-use Rattle.ht_net.specs.Detection.{unknown_state}
+use Rattle.ht_net.specs.Detect.Detection.{unknown_state}
 use Rattle.ht_inputs.proofs.FaultLaws.{fault_ends}
 use Rattle.ht_app.proofs.UnlistedLaws.{machine_listed}
 use Rattle.ht_inputs.proofs.ReadingLaws.{basis_from, basis_of, one_more, read_so, stops_there, tests_stop}

@@ -1,6 +1,6 @@
 use Rattle.std.proofs.Common.{arith}
 use Rattle.std.proofs.lemmas.Grind.{common_steps}
-use Rattle.ht_net.specs.Draft.{draft_name}
+use Rattle.ht_net.specs.Build.Draft.{draft_name}
 use Rattle.ht_bench.proofs.AddLaws.{output_is}
 use Rattle.ht_bench.proofs.add_line.add_output.Goals as goal
 

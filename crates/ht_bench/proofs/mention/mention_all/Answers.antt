@@ -1,7 +1,7 @@
 use Rattle.std.proofs.Common.{arith}
 use Rattle.std.proofs.lemmas.List.{drop_more}
 use Rattle.std.proofs.lemmas.List.Elements.{All-push}
-use Rattle.ht_net.specs.Draft.{IsName}
+use Rattle.ht_net.specs.Build.Draft.{IsName}
 use Rattle.ht_bench.proofs.MentionLaws.{names_known, names_stay, mentioning}
 use Rattle.ht_bench.proofs.NameListLaws.{with_names-long}
 use Rattle.ht_bench.proofs.mention.mention_all.Goals as goal

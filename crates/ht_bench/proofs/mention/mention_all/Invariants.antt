@@ -1,5 +1,5 @@
 use Rattle.std.proofs.Common.{◌≡◌, ◌++◌, map, drop, All}
-use Rattle.ht_net.specs.Draft.{IsDraft, IsName, draft_name}
+use Rattle.ht_net.specs.Build.Draft.{IsDraft, IsName, draft_name}
 use Rattle.ht_statement.specs.StatementOf.{texts_of}
 use Rattle.ht_bench.specs.Different.{with_names}
 use Rattle.ht_bench.proofs.mention.mention_all.Given as goal

@@ -1,4 +1,4 @@
-use Rattle.ht_net.specs.Finish.{no_name}
+use Rattle.ht_net.specs.Build.Finish.{no_name}
 use Rattle.ht_bench.proofs.EndOfTextLaws.{net_is_mentioned, undriven_is}
 use Rattle.ht_bench.proofs.NetCycleLaws.{some_net, first_is_driven, loop_found}
 use Rattle.ht_bench.proofs.reader.end_refusal.Goals as goal

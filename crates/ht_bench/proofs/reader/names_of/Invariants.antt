@@ -1,5 +1,5 @@
 use Rattle.std.proofs.Common.{◌≡◌, map, take}
-use Rattle.ht_net.specs.Draft.{draft_name}
+use Rattle.ht_net.specs.Build.Draft.{draft_name}
 use Rattle.ht_bench.proofs.reader.names_of.Given as goal
 
 abbrev pub invariant-loop-net : goal.invariant-loop-net

@@ -1,6 +1,6 @@
 use Rattle.std.proofs.Common.{◌≡◌, ◌++◌, ◌∷◌, ◌<◌, List, [], ℕ, zero, suc, length, take, drop, get_or, rules, arith, refl, sym, ◌∙◌, ap, codes, append_assoc}
 use Rattle.ht_ports.proofs.WroteLaws.{wrote_then, wrote_failed}
-use Rattle.ht_net.specs.Named.{Name}
+use Rattle.ht_net.specs.Build.Named.{Name}
 use Rattle.ht_bench.specs.RefusalText.{loop_text}
 use Rattle.ht_bench.proofs.refusal_text.write_names.Goals as goal
 

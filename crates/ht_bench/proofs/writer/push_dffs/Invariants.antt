@@ -1,5 +1,5 @@
 use Rattle.std.proofs.Common.{◌≡◌, ◌++◌, ◌+◌, map, drop}
-use Rattle.ht_net.specs.Named.{named_of, named_dffs}
+use Rattle.ht_net.specs.Build.Named.{named_of, named_dffs}
 use Rattle.ht_bench.specs.Normal.{statement_lines, dff_statement, dff_lines}
 use Rattle.ht_bench.proofs.writer.push_dffs.Given as goal
 

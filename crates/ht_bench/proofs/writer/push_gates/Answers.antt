@@ -2,7 +2,7 @@ use Rattle.std.proofs.Common.{◌<◌, arith, append_assoc, add_assoc}
 use Rattle.std.proofs.lemmas.List.{drop_more}
 use Rattle.std.proofs.lemmas.List.Elements.{All-from_get_or}
 use Rattle.ht_net.specs.declared.net.NetId.{NetId}
-use Rattle.ht_net.specs.Netlist.{gate_at, net_count, no_gate, no_net}
+use Rattle.ht_net.specs.Circuit.Netlist.{gate_at, net_count, no_gate, no_net}
 use Rattle.ht_bench.proofs.writer.push_gates.Goals as goal
 
 pub push_gate-requires : goal.push_gate-requires

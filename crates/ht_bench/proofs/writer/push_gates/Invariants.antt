@@ -1,6 +1,6 @@
 use Rattle.std.proofs.Common.{◌≡◌, ◌++◌, ◌+◌, map, drop}
-use Rattle.ht_net.specs.Netlist.{first_gate_net}
-use Rattle.ht_net.specs.Named.{named_of, named_gates}
+use Rattle.ht_net.specs.Circuit.Netlist.{first_gate_net}
+use Rattle.ht_net.specs.Build.Named.{named_of, named_gates}
 use Rattle.ht_bench.specs.Normal.{statement_lines, gate_statement, gate_lines}
 use Rattle.ht_bench.proofs.writer.push_gates.Given as goal
 

@@ -1,5 +1,5 @@
 use Rattle.std.proofs.Common.{◌≡◌, ◌++◌, map, take}
-use Rattle.ht_net.specs.Named.{named_of}
+use Rattle.ht_net.specs.Build.Named.{named_of}
 use Rattle.ht_statement.specs.Statement.{input_line}
 use Rattle.ht_bench.specs.Normal.{statement_lines}
 use Rattle.ht_bench.proofs.writer.push_inputs.Given as goal

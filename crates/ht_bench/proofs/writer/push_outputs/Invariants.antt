@@ -1,5 +1,5 @@
 use Rattle.std.proofs.Common.{◌≡◌, ◌++◌, map, drop}
-use Rattle.ht_net.specs.Named.{name_of, named_of}
+use Rattle.ht_net.specs.Build.Named.{name_of, named_of}
 use Rattle.ht_statement.specs.Statement.{output_line}
 use Rattle.ht_bench.specs.Normal.{statement_lines, output_lines}
 use Rattle.ht_bench.proofs.writer.push_outputs.Given as goal

@@ -1,5 +1,5 @@
 use Rattle.std.proofs.Common.{◌≡◌, ◌↔◌, ◌∙◌, IfOk, IsTrue, length, ap, sym, subst}
-use Rattle.ht_tree.specs.Windows.{SearchWindow, forward_frames, forward_window}
+use Rattle.ht_tree.specs.Window.Windows.{SearchWindow, forward_frames, forward_window}
 use Rattle.ht_recompute.specs.KeptFramesOf.{KeptState}
 use Rattle.ht_check.specs.SearchEnds.{EndsAs}
 use Rattle.ht_check.proofs.aims.ends_ahead.Goals as goal

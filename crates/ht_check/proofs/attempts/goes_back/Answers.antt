@@ -1,6 +1,6 @@
 use Rattle.std.proofs.Common.{◌↔◌, ◌∙◌, List, IfOk, IsTrue, length, ap, subst}
 use Rattle.ht_tern.specs.declared.tern.Tern.{Tern}
-use Rattle.ht_tree.specs.Reached.{Reaches}
+use Rattle.ht_tree.specs.Record.Reached.{Reaches}
 use Rattle.ht_check.proofs.AttemptLaws.{cube_long}
 use Rattle.ht_check.proofs.attempts.goes_back.Goals as goal
 

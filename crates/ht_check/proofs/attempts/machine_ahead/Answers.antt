@@ -1,10 +1,10 @@
 use Rattle.std.proofs.Common.{◌∙◌, List, map, length, ap, sym, subst}
 use Rattle.ht_tern.specs.declared.tern.Tern.{Tern}
-use Rattle.ht_net.specs.Netlist.{Netlist}
-use Rattle.ht_net.specs.Faults.{tern_rules}
-use Rattle.ht_net.specs.Detection.{terns_of}
+use Rattle.ht_net.specs.Circuit.Netlist.{Netlist}
+use Rattle.ht_net.specs.Frames.Faults.{tern_rules}
+use Rattle.ht_net.specs.Detect.Detection.{terns_of}
 use Rattle.ht_serial.specs.MachineState.{MachineState, after, started}
-use Rattle.ht_tree.specs.Reached.{AreVectors}
+use Rattle.ht_tree.specs.Record.Reached.{AreVectors}
 use Rattle.ht_check.proofs.AttemptLaws.{state_long}
 use Rattle.ht_check.proofs.attempts.machine_ahead.Goals as goal
 

@@ -1,5 +1,5 @@
 use Rattle.std.proofs.Common.{◌≡◌, ◌<◌, ℕ, false}
-use Rattle.ht_net.specs.Netlist.{arg_at}
+use Rattle.ht_net.specs.Circuit.Netlist.{arg_at}
 use Rattle.ht_cubes.specs.Cones.{marked}
 use Rattle.ht_cubes.proofs.cone.gate_reads_marked.Given as goal
 

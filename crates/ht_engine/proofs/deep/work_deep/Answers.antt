@@ -1,6 +1,6 @@
 use Rattle.std.proofs.Common.{refl}
 use Rattle.std.proofs.lemmas.Result.{IfOk-weaker}
-use Rattle.ht_tree.specs.Windows.{state_pair}
+use Rattle.ht_tree.specs.Window.Windows.{state_pair}
 use Rattle.ht_engine.proofs.DeepLaws.{deep_passes, if_ok_both, open_deep, refuted_deep}
 use Rattle.ht_engine.proofs.EnoughLaws.{deep_found, enough_open, enough_refuted}
 use Rattle.ht_engine.proofs.deep.work_deep.Goals as goal

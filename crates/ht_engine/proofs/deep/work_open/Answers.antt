@@ -1,4 +1,4 @@
-use Rattle.ht_tree.specs.Windows.{state_pair}
+use Rattle.ht_tree.specs.Window.Windows.{state_pair}
 use Rattle.ht_engine.proofs.DeepLaws.{if_ok_both, onward_holds}
 use Rattle.ht_engine.proofs.deep.work_open.Goals as goal
 

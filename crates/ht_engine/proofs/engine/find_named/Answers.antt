@@ -1,9 +1,9 @@
 use Rattle.std.specs.Prelude.{◌≡◌, List, Bool, length}
 use Rattle.std.proofs.Common.{ap, subst, sym, ◌∙◌}
 use Rattle.ht_tern.specs.declared.tern.Tern.{Tern}
-use Rattle.ht_net.specs.Detection.{some_state}
+use Rattle.ht_net.specs.Detect.Detection.{some_state}
 use Rattle.ht_net.proofs.SilenceLaws.{some_long}
-use Rattle.ht_tree.specs.Invariants.{IsInvariant}
+use Rattle.ht_tree.specs.Clause.Invariants.{IsInvariant}
 use Rattle.ht_invariant.specs.FoundClauses.{FindsClauses}
 use Rattle.ht_engine.proofs.engine.find_named.Goals as goal
 

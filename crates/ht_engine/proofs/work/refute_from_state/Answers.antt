@@ -2,7 +2,7 @@ use Rattle.std.proofs.Common.{◌≡◌, ◌<◌, ◌==◌, ℕ, suc, zero, List
 use Rattle.std.specs.List.{All}
 use Rattle.std.proofs.lemmas.Bool.{true≢false}
 use Rattle.ht_tree.specs.declared.clause.Clause.{Clause}
-use Rattle.ht_tree.specs.Clauses.{IsClause}
+use Rattle.ht_tree.specs.Clause.Clauses.{IsClause}
 use Rattle.ht_engine.proofs.work.refute_from_state.Goals as goal
 
 is_above_zero : (n : ℕ) → (n == 0) ≡ false → 0 < n

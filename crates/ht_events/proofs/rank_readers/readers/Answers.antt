@@ -1,6 +1,6 @@
 use Rattle.std.specs.List.{Contains}
 use Rattle.std.proofs.Common.{◌≡◌, ℕ, List, [], get_or, sym, arith, subst}
-use Rattle.ht_net.specs.Netlist.{net_count}
+use Rattle.ht_net.specs.Circuit.Netlist.{net_count}
 use Rattle.ht_events.specs.Schedules.{AreGateRanks}
 use Rattle.ht_events.proofs.ItemLaws.{reads_known}
 use Rattle.ht_events.proofs.ReaderLaws.{HasRankRows, row_more, readers_are}

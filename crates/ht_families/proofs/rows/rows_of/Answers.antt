@@ -5,7 +5,7 @@ use Rattle.std.proofs.lemmas.List.Elements.{All-weaker}
 use Rattle.ht_tern.specs.declared.tern.Tern.TheVariants.{Zero}
 use Rattle.ht_pairs.specs.Pairs.{set_of}
 use Rattle.ht_tree.specs.declared.family_row.FamilyRow.{FamilyRow}
-use Rattle.ht_tree.specs.FamilyRows.{start_set}
+use Rattle.ht_tree.specs.Record.FamilyRows.{start_set}
 use Rattle.ht_families.proofs.RowsOfLaws.{AreRows, IsOwnRow, ended, pushed, skipped, start_read}
 use Rattle.ht_families.proofs.rows.rows_of.Goals.{then-not-alone+in_ok-push, else-not-alone}
 use Rattle.ht_families.proofs.rows.rows_of.Goals as goal

@@ -1,5 +1,5 @@
 use Rattle.std.proofs.Common.{◌≡◌, ℕ, [], drop, get_or}
-use Rattle.ht_tree.specs.FamilyRows.{row_set}
+use Rattle.ht_tree.specs.Record.FamilyRows.{row_set}
 use Rattle.ht_families.proofs.rows.write_rows.Given as goal
 
 abbrev pub invariant-loop-row : goal.invariant-loop-row

@@ -2,7 +2,7 @@ use Rattle.std.proofs.Common.{◌≡◌, ◌∙◌, ◌<◌, ◌≤◌, ◌*◌,
 use Rattle.std.proofs.lemmas.List.{with_items_is}
 use Rattle.ht_pairs.specs.Pairs.{Pair}
 use Rattle.ht_pairs.specs.Included.{joined_set}
-use Rattle.ht_tree.specs.ClosedFamilies.{IncludesEach, Family}
+use Rattle.ht_tree.specs.Record.ClosedFamilies.{IncludesEach, Family}
 use Rattle.ht_families.specs.FamilyFrames.{size_of}
 use Rattle.ht_families.proofs.CloseLaws.{frame_run, least_when, none_when, smaller_when}
 use Rattle.ht_families.proofs.JoinEachLaws.{not_true}

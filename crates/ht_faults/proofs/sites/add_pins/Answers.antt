@@ -1,7 +1,7 @@
 use Rattle.std.proofs.Common.{◌≡◌, ◌∙◌, sym, ap, List, get_or}
 use Rattle.ht_net.specs.declared.net.NetId.{NetId}
 use Rattle.ht_net.specs.declared.fault.Site.TheVariants.{GatePin}
-use Rattle.ht_net.specs.Netlist.{no_net}
+use Rattle.ht_net.specs.Circuit.Netlist.{no_net}
 use Rattle.ht_faults.specs.Sites.{is_fanout, is_site}
 use Rattle.ht_faults.proofs.SiteLaws.{one_kept, one_left}
 use Rattle.ht_faults.proofs.sites.add_pins.Goals as goal

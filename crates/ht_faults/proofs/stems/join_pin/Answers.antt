@@ -1,6 +1,6 @@
 use Rattle.std.proofs.Common.{◌≡◌, ◌<◌, ℕ, List, Bool, true, false, length, get_or, sym, ◌∙◌, ap}
 use Rattle.ht_net.specs.declared.net.NetId.{NetId}
-use Rattle.ht_net.specs.Netlist.{Netlist, arg_at, gate_at, no_net, IsCircuit}
+use Rattle.ht_net.specs.Circuit.Netlist.{Netlist, arg_at, gate_at, no_net, IsCircuit}
 use Rattle.ht_faults.specs.Sites.{is_fanout}
 use Rattle.ht_faults.specs.Leaders.{stem_number, output_value, united}
 use Rattle.ht_faults.proofs.UnionLaws.{AreUnited, united_pin}

@@ -1,6 +1,6 @@
 use Rattle.std.proofs.Common.{◌≡◌, ◌<◌, ◌-◌, ◌*◌, ◌++◌, ℕ, List, length, get_or, take, drop, sym, ◌∙◌, ap, arith, subst}
 use Rattle.std.proofs.lemmas.List.{append-nil, take_all, drop_all}
-use Rattle.ht_net.specs.Netlist.{Netlist, IsCircuit, IsOrder}
+use Rattle.ht_net.specs.Circuit.Netlist.{Netlist, IsCircuit, IsOrder}
 use Rattle.ht_faults.specs.Leaders.{StayInClass, GateJoins, OthersStay}
 use Rattle.ht_faults.proofs.OrderLaws.{own_stay, one_gate, all_gates}
 use Rattle.ht_faults.proofs.stems.stem_leaders.Goals as goal
@@ -8,7 +8,7 @@ use Rattle.ht_faults.proofs.stems.stem_leaders.Goals as goal
 pub loop-k-init : goal.loop-k-init
 loop-k-init c =
     let n = c.args.circuit.now in
-    let count : length c.in_ok-leaders.leaders.items ≡ 2 * Rattle.ht_net.specs.Netlist.net_count n = let a =
+    let count : length c.in_ok-leaders.leaders.items ≡ 2 * Rattle.ht_net.specs.Circuit.Netlist.net_count n = let a =
     c.in_ok-leaders.ensures.count in let b = c.nets.ensures.count in omega arith in
     record {
       stays = own_stay n c.in_ok-leaders.leaders.items count

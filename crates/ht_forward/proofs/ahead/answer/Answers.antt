@@ -1,7 +1,7 @@
 use Rattle.std.proofs.Common.{◌∙◌, List, ap, sym, subst, arith}
-use Rattle.ht_tree.specs.Searches.{Closes, SpendsAt, guide_of, node_at}
-use Rattle.ht_tree.specs.Windows.{SearchWindow, token_weight}
-use Rattle.ht_tree.specs.WindowStatus.{status_at, without_place}
+use Rattle.ht_tree.specs.Walk.Searches.{Closes, SpendsAt, guide_of, node_at}
+use Rattle.ht_tree.specs.Window.Windows.{SearchWindow, token_weight}
+use Rattle.ht_tree.specs.Window.WindowStatus.{status_at, without_place}
 use Rattle.ht_tree.specs.declared.token.Token.{Token}
 use Rattle.ht_tree.proofs.DifferenceLaws.{window_stays}
 use Rattle.ht_forward.proofs.ahead.answer.Goals as goal

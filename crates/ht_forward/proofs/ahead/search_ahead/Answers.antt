@@ -1,8 +1,8 @@
 use Rattle.std.proofs.Common.{◌∙◌, ap, sym, subst, arith}
-use Rattle.ht_tree.specs.Counts.{seeks_difference}
-use Rattle.ht_tree.specs.Places.{state_places}
-use Rattle.ht_tree.specs.Searches.{guide_of, node_at}
-use Rattle.ht_tree.specs.Windows.{SearchWindow, token_weight}
+use Rattle.ht_tree.specs.Walk.Counts.{seeks_difference}
+use Rattle.ht_tree.specs.Window.Places.{state_places}
+use Rattle.ht_tree.specs.Walk.Searches.{guide_of, node_at}
+use Rattle.ht_tree.specs.Window.Windows.{SearchWindow, token_weight}
 use Rattle.ht_search.specs.Outcomes.{IsOutcome}
 use Rattle.ht_forward.specs.AheadSearches.{IsAhead}
 use Rattle.ht_forward.proofs.ahead.search_ahead.Goals as goal

@@ -1,6 +1,6 @@
 use Rattle.std.proofs.Common.{◌∙◌, Some, sym, subst, arith}
-use Rattle.ht_net.specs.Netlist.{Netlist}
-use Rattle.ht_tree.specs.Windows.{IsStart}
+use Rattle.ht_net.specs.Circuit.Netlist.{Netlist}
+use Rattle.ht_tree.specs.Window.Windows.{IsStart}
 use Rattle.ht_window.specs.Starts.{start_of}
 use Rattle.ht_forward.specs.Sweeps.{SweepSpends, sweep_guide, window_of}
 use Rattle.ht_forward.proofs.FoundLaws.{found_within}

@@ -1,5 +1,5 @@
 use Rattle.std.proofs.Common.{◌≡◌, ◌∷◌, drop}
-use Rattle.ht_net.specs.Frame.{values_at}
+use Rattle.ht_net.specs.Frames.Frame.{values_at}
 use Rattle.ht_frame.specs.Values.{env_of}
 use Rattle.ht_frame.proofs.frame.eval_nets.Given as goal
 

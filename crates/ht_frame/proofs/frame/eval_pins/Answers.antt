@@ -1,7 +1,7 @@
 use Rattle.std.proofs.Common.{◌∙◌, arith, ap}
 use Rattle.ht_net.proofs.FrameLaws.{pins_done}
-use Rattle.ht_net.specs.Frame.{pin_values}
-use Rattle.ht_net.specs.Faults.{rules_of}
+use Rattle.ht_net.specs.Frames.Frame.{pin_values}
+use Rattle.ht_net.specs.Frames.Faults.{rules_of}
 use Rattle.ht_frame.specs.Values.{env_of}
 use Rattle.ht_frame.proofs.frame.eval_pins.Goals as goal
 

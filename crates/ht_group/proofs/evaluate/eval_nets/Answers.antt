@@ -3,7 +3,7 @@ use Rattle.std.proofs.lemmas.List.{get_or_read}
 use Rattle.ht_tern.specs.Gate.{operation_of, polarity_of}
 use Rattle.ht_lanes.specs.Lanes.{lane_operations}
 use Rattle.ht_net.specs.declared.net.NetId.{NetId}
-use Rattle.ht_net.specs.Netlist.{no_net}
+use Rattle.ht_net.specs.Circuit.Netlist.{no_net}
 use Rattle.ht_frame.specs.Values.{env_of}
 use Rattle.ht_group.proofs.FoldLaws.{fold_next, later_known}
 use Rattle.ht_group.proofs.evaluate.eval_nets.Goals as goal

@@ -1,7 +1,7 @@
 use Rattle.std.proofs.Common.{◌≡◌, drop}
 use Rattle.ht_tern.specs.Gate.{gate_value_over, polarity_of, folded, operation_of}
 use Rattle.ht_lanes.specs.Lanes.{Lanes, lane_operations}
-use Rattle.ht_net.specs.Frame.{values_at}
+use Rattle.ht_net.specs.Frames.Frame.{values_at}
 use Rattle.ht_frame.specs.Values.{env_of}
 use Rattle.ht_group.proofs.evaluate.eval_nets.Given as goal
 

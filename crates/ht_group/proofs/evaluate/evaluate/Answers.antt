@@ -1,6 +1,6 @@
 use Rattle.std.proofs.Common.{◌≡◌, ◌<◌, ◌≤◌, ◌+◌, ◌-◌, ◌∙◌, ap, sym, arith, ℕ}
-use Rattle.ht_net.specs.Netlist.{first_gate_net}
-use Rattle.ht_net.specs.Frame.{gate_output}
+use Rattle.ht_net.specs.Circuit.Netlist.{first_gate_net}
+use Rattle.ht_net.specs.Frames.Frame.{gate_output}
 use Rattle.ht_group.specs.LaneRules.{rules_at, in_lane, lane_env}
 use Rattle.ht_group.proofs.DriveLaws.{drive_low, drive_gate}
 use Rattle.ht_group.proofs.InLaneLaws.{lane_read}

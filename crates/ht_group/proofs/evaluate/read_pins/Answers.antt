@@ -2,7 +2,7 @@ use Rattle.std.specs.Prelude.{set}
 use Rattle.std.proofs.Common.{◌≡◌, ◌<◌, ◌∙◌, ℕ, length, get_or, ap, sym, arith, inl, inr}
 use Rattle.std.proofs.lemmas.Bool.Decides.{eqb_tells}
 use Rattle.std.proofs.lemmas.List.{length-set}
-use Rattle.ht_net.specs.Netlist.{no_net}
+use Rattle.ht_net.specs.Circuit.Netlist.{no_net}
 use Rattle.ht_group.specs.LaneRules.{lane_env}
 use Rattle.ht_group.proofs.InLaneLaws.{lane_read, lane_written, lane_unwritten}
 use Rattle.ht_group.proofs.evaluate.read_pins.Goals as goal

@@ -1,5 +1,5 @@
 use Rattle.std.proofs.Common.{◌≡◌, ◌<◌, ℕ, length, get_or}
-use Rattle.ht_net.specs.Netlist.{no_net}
+use Rattle.ht_net.specs.Circuit.Netlist.{no_net}
 use Rattle.ht_group.specs.LaneRules.{lane_env}
 use Rattle.ht_group.proofs.evaluate.read_pins.Given as goal
 

@@ -1,5 +1,5 @@
 use Rattle.std.proofs.Common.{◌≡◌, ◌<◌, ◌≤◌, ◌-◌, ℕ, false, length, get_or}
-use Rattle.ht_net.specs.Netlist.{first_gate_net, net_count}
+use Rattle.ht_net.specs.Circuit.Netlist.{first_gate_net, net_count}
 use Rattle.ht_group.specs.MachineWords.{HaveRun}
 use Rattle.ht_group.proofs.events.settle_word.Given as goal
 

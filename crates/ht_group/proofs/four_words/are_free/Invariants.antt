@@ -1,5 +1,5 @@
 use Rattle.std.proofs.Common.{◌<◌, ◌-◌, ℕ, get_or}
-use Rattle.ht_net.specs.Netlist.{first_gate_net}
+use Rattle.ht_net.specs.Circuit.Netlist.{first_gate_net}
 use Rattle.ht_group.specs.StuckTables.{AreGateLanes}
 use Rattle.ht_group.specs.declared.machines.Machines.{Machines}
 use Rattle.ht_group.proofs.four_words.are_free.Given as goal

@@ -6,8 +6,8 @@ use Rattle.ht_tern.specs.Gate.{gate_value}
 use Rattle.ht_lanes.specs.Lanes.{Lanes, gate_lanes, lane, word_at}
 use Rattle.ht_lanes.proofs.LaneLaws.{gate_at_lane}
 use Rattle.ht_net.specs.declared.net.NetId.{NetId}
-use Rattle.ht_net.specs.Netlist.{first_gate_net, gate_at, no_net}
-use Rattle.ht_net.specs.Frame.{values_at}
+use Rattle.ht_net.specs.Circuit.Netlist.{first_gate_net, gate_at, no_net}
+use Rattle.ht_net.specs.Frames.Frame.{values_at}
 use Rattle.ht_net.proofs.FrameLaws.{gate_from}
 use Rattle.ht_frame.specs.StuckPins.{is_at_gate}
 use Rattle.ht_frame.proofs.PinLaws.{plain_pins}

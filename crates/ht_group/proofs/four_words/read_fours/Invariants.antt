@@ -1,6 +1,6 @@
 use Rattle.std.proofs.Common.{◌≡◌, ◌<◌, ℕ, [], length, get_or}
 use Rattle.ht_lanes.specs.Lanes.{word_at}
-use Rattle.ht_net.specs.Netlist.{no_net}
+use Rattle.ht_net.specs.Circuit.Netlist.{no_net}
 use Rattle.ht_group.specs.declared.machines.Machines.{Machines}
 use Rattle.ht_group.proofs.four_words.read_fours.Given as goal
 

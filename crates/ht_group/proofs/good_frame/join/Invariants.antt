@@ -1,5 +1,5 @@
 use Rattle.std.proofs.Common.{◌≡◌, ◌+◌, length, take}
-use Rattle.ht_net.specs.Detection.{terns_of}
+use Rattle.ht_net.specs.Detect.Detection.{terns_of}
 use Rattle.ht_group.proofs.good_frame.join.Given as goal
 
 abbrev pub invariant-loop-i : goal.invariant-loop-i

@@ -3,7 +3,7 @@ use Rattle.std.specs.Prelude.{None, Some, if◌then◌else◌}
 use Rattle.ht_inputs.proofs.Common.{AreFirstDetections, Asked, Content, Extra, HasReadTo, Tern, input_name}
 use Rattle.ht_inputs.proofs.Common.{IsTestText, SaysBasis}
 use Rattle.ht_ports.specs.declared.ports.InPort.TheVariants.{Tests}
-use Rattle.ht_net.specs.Detection.{unknown_state}
+use Rattle.ht_net.specs.Detect.Detection.{unknown_state}
 use Rattle.ht_words.specs.declared.job.RunFiles.{RunFiles}
 use Rattle.ht_inputs.specs.declared.run_error.RunError.TheVariants.{NoMemory}
 use Rattle.ht_inputs.specs.Grading.{JudgesFiles}

@@ -1,7 +1,7 @@
 use Rattle.std.proofs.Common.{◌≡◌, ◌^◌, ◌-◌, ℕ, List, subst, sym, arith}
 use Rattle.ht_inputs.proofs.Common.{Asked, BadTests, DeskView, IsMalformedTest, IsTestText, JobBasis, ReadFault, ReadStops}
 use Rattle.ht_inputs.proofs.Common.{RunError, TestsStop}
-use Rattle.ht_net.specs.Netlist.{Netlist}
+use Rattle.ht_net.specs.Circuit.Netlist.{Netlist}
 use Rattle.ht_ports.specs.declared.ports.InPort.TheVariants.{Tests}
 use Rattle.ht_inputs.specs.declared.run_error.RunError.TheVariants.{NoMemory}
 use Rattle.ht_inputs.specs.Grading.{DeniesTests, denied_tests}

@@ -12,7 +12,7 @@ use Rattle.ht_bench.specs.declared.error.BenchError.TheVariants.{NoMemory}
 use Rattle.ht_inputs.specs.Refusals.{IsRefused}
 use Rattle.ht_inputs.proofs.netlist.read_netlist.Given as given
 use Rattle.ht_inputs.proofs.netlist.read_netlist.Goals as goal
-use Rattle.ht_net.specs.Netlist as net
+use Rattle.ht_net.specs.Circuit.Netlist as net
 
 -- the reader refuses the text of the file
 pub record IsReadInVain (name : List ℕ) (a : DeskView) (text : List ℕ) (error : BenchError) : Type 0 where

@@ -3,7 +3,7 @@ use Rattle.std.specs.Prelude.{MatchOption}
 use Rattle.std.specs.declared.alloc.Global.{Global}
 use Rattle.std.proofs.lemmas.Result.{IfErr-weaker, IfOk-weaker}
 use Rattle.ht_inputs.proofs.Common.{Extra, JobBasis, ReadStops, Tern, WasRead}
-use Rattle.ht_net.specs.Detection.{IsStart}
+use Rattle.ht_net.specs.Detect.Detection.{IsStart}
 use Rattle.ht_texts.specs.StartTexts.{IsStartLine, IsStartText}
 use Rattle.ht_inputs.specs.Judging.{StandsForStart}
 use Rattle.ht_inputs.proofs.JudgedLaws.{whole_file}

@@ -1,7 +1,7 @@
 use Rattle.std.proofs.Common.{◌≡◌, ◌≤◌, ◌∙◌, ◌^◌, ◌-◌, ap, sym, subst, ℕ, List, Bool, length, refl, arith}
 use Rattle.std.specs.Prelude.{Some, Result, Ok, Err, IfErr, IfOk}
 use Rattle.ht_ports.specs.declared.ports.InPort.TheVariants.{Tests}
-use Rattle.ht_net.specs.Netlist.{Netlist}
+use Rattle.ht_net.specs.Circuit.Netlist.{Netlist}
 use Rattle.ht_inputs.proofs.Common.{Asked, DeskView, EndsReading, GenOptions, HasReadTo, InCall, IsTestText, JobBasis}
 use Rattle.ht_inputs.proofs.Common.{Rows, RunError, SaysBasis, TestsStop, WasRead, gen, max_text_bytes}
 use Rattle.ht_inputs.specs.Reading.{AreVectorsUpTo}

@@ -1,8 +1,8 @@
 use Rattle.std.proofs.Common.{subst}
-use Rattle.ht_tree.specs.Windows.{SearchWindow}
-use Rattle.ht_tree.specs.Searches.{node_at}
+use Rattle.ht_tree.specs.Window.Windows.{SearchWindow}
+use Rattle.ht_tree.specs.Walk.Searches.{node_at}
 use Rattle.ht_search.specs.Outcomes.{IsOutcome}
-use Rattle.ht_tree.specs.ClauseSearches.{guide_under}
+use Rattle.ht_tree.specs.Clause.ClauseSearches.{guide_under}
 use Rattle.ht_invariant.specs.declared.sought.Sought.TheVariants.{Breach}
 use Rattle.ht_invariant.specs.Trials.{clause_window}
 use Rattle.ht_invariant.specs.ClosingRounds.{closing_guide}

@@ -1,9 +1,9 @@
 use Rattle.std.proofs.Common.{◌≡◌, ◌∙◌, ap, sym, subst, arith}
-use Rattle.ht_net.specs.Netlist.{Netlist}
-use Rattle.ht_tree.specs.Windows.{SearchWindow}
+use Rattle.ht_net.specs.Circuit.Netlist.{Netlist}
+use Rattle.ht_tree.specs.Window.Windows.{SearchWindow}
 use Rattle.ht_invariant.specs.UnderWay.{IsUnderWay}
 use Rattle.ht_invariant.proofs.ClosingRoundLaws.{round_ends}
-use Rattle.ht_tree.specs.ClauseWindows.{good_window}
+use Rattle.ht_tree.specs.Clause.ClauseWindows.{good_window}
 use Rattle.ht_invariant.proofs.closing.closing_round.Goals as goal
 
 pub search_clause-requires-clause-good : goal.search_clause-requires-clause-good

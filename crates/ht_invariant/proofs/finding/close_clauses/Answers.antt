@@ -1,7 +1,7 @@
 use Rattle.std.proofs.Common.{◌≡◌, ◌∙◌, true, ap, sym, subst, arith}
-use Rattle.ht_net.specs.Netlist.{Netlist}
-use Rattle.ht_tree.specs.Windows.{SearchWindow}
-use Rattle.ht_tree.specs.ClauseWindows.{good_window}
+use Rattle.ht_net.specs.Circuit.Netlist.{Netlist}
+use Rattle.ht_tree.specs.Window.Windows.{SearchWindow}
+use Rattle.ht_tree.specs.Clause.ClauseWindows.{good_window}
 use Rattle.ht_invariant.specs.Trials.{knows_each}
 use Rattle.ht_invariant.specs.ClosingRounds.{IsClosingRound}
 use Rattle.ht_invariant.proofs.ClosingRoundLaws.{rounds_go_on}

@@ -1,12 +1,12 @@
 use Rattle.std.proofs.Common.{◌≡◌, ◌∙◌, List, Bool, ap, sym, subst}
-use Rattle.ht_net.specs.Netlist.{Netlist}
-use Rattle.ht_tree.specs.Windows.{SearchWindow}
+use Rattle.ht_net.specs.Circuit.Netlist.{Netlist}
+use Rattle.ht_tree.specs.Window.Windows.{SearchWindow}
 use Rattle.ht_tree.specs.declared.clause.Clause.{Clause}
 use Rattle.ht_invariant.specs.Trials.{knows_each}
 use Rattle.ht_invariant.specs.ClosingRounds.{AreClosingRounds}
 use Rattle.ht_invariant.specs.FoundClauses.{FindsClauses, candidates_of, first_clauses, is_met_by_each}
 use Rattle.std.specs.Prelude.{take, filter}
-use Rattle.ht_tree.specs.Invariants.{max_clauses}
+use Rattle.ht_tree.specs.Clause.Invariants.{max_clauses}
 use Rattle.ht_invariant.proofs.FindLaws.{first_known, found_invariant}
 use Rattle.ht_invariant.proofs.finding.find.Goals as goal
 use Rattle.ht_invariant.proofs.finding.find.Goals.{In_ok-window}

@@ -1,6 +1,6 @@
 use Rattle.std.proofs.Common.{◌≡◌, drop}
 use Rattle.std.specs.List.{list_any}
-use Rattle.ht_tree.specs.Clauses.{literals_of_each, path_breaks}
+use Rattle.ht_tree.specs.Clause.Clauses.{literals_of_each, path_breaks}
 use Rattle.ht_invariant.proofs.literals.breaks_some.Given as goal
 
 abbrev pub invariant-loop-clause : goal.invariant-loop-clause

@@ -1,6 +1,6 @@
 use Rattle.std.proofs.Common.{◌≡◌, drop}
 use Rattle.std.specs.List.{list_all}
-use Rattle.ht_tree.specs.Clauses.{literals_of_each, path_meets}
+use Rattle.ht_tree.specs.Clause.Clauses.{literals_of_each, path_meets}
 use Rattle.ht_invariant.proofs.literals.meets_each.Given as goal
 
 abbrev pub invariant-loop-clause : goal.invariant-loop-clause

@@ -1,6 +1,6 @@
 use Rattle.std.proofs.Common.{◌≡◌, not, drop}
 use Rattle.std.specs.List.{find}
-use Rattle.ht_tree.specs.Clauses.{literals_of_each, path_meets}
+use Rattle.ht_tree.specs.Clause.Clauses.{literals_of_each, path_meets}
 use Rattle.ht_invariant.proofs.literals.to_clause.Given as goal
 
 abbrev pub invariant-loop-clause : goal.invariant-loop-clause

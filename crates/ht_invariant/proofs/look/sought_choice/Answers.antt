@@ -1,5 +1,5 @@
 use Rattle.std.proofs.Common.{◌≡◌, ◌∙◌, ◌∷◌, true, ap, sym}
-use Rattle.ht_tree.specs.Clauses.{second_of}
+use Rattle.ht_tree.specs.Clause.Clauses.{second_of}
 use Rattle.ht_invariant.specs.Trials.{knows, knows_sought}
 use Rattle.ht_invariant.proofs.LookLaws.{found_walks}
 use Rattle.ht_invariant.proofs.look.sought_choice.Goals as goal

@@ -1,9 +1,9 @@
 use Rattle.std.proofs.Common.{◌≡◌, ◌∙◌, ℕ, List, Bool, [], false, length, get_or, refl, ap, sym, subst, arith}
 use Rattle.std.proofs.lemmas.List.{length-replicate}
-use Rattle.ht_net.specs.Netlist.{IsCircuit, Netlist}
-use Rattle.ht_tree.specs.Searches.{Closes}
-use Rattle.ht_tree.specs.ToldChains.{is_output}
-use Rattle.ht_tree.specs.Clauses.{AreKnownClauses, literals_of_each}
+use Rattle.ht_net.specs.Circuit.Netlist.{IsCircuit, Netlist}
+use Rattle.ht_tree.specs.Walk.Searches.{Closes}
+use Rattle.ht_tree.specs.Record.ToldChains.{is_output}
+use Rattle.ht_tree.specs.Clause.Clauses.{AreKnownClauses, literals_of_each}
 use Rattle.ht_window.specs.Starts.{marked}
 use Rattle.ht_records.proofs.MeetLaws.{clauses_known}
 use Rattle.ht_oneframe.specs.Rounds.{FindsFrame, IsRound, SpendsIn}

@@ -1,6 +1,6 @@
 use Rattle.std.proofs.Common.{◌≡◌, List}
 use Rattle.ht_tree.specs.declared.told.Told.{Told}
-use Rattle.ht_tree.specs.Clauses.{literals_of_each}
+use Rattle.ht_tree.specs.Clause.Clauses.{literals_of_each}
 use Rattle.ht_oneframe.proofs.MarkLaws.{unmarked}
 use Rattle.ht_oneframe.proofs.RoundLaws.{AreRounds}
 use Rattle.ht_invariant.specs.FromStates.{guide_from}

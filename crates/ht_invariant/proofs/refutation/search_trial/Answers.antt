@@ -1,10 +1,10 @@
 use Rattle.std.proofs.Common.{◌∙◌, ap, subst}
-use Rattle.ht_tree.specs.Searches.{node_at}
-use Rattle.ht_tree.specs.Windows.{SearchWindow}
-use Rattle.ht_tree.specs.WindowStatus.{status_at, without_place}
-use Rattle.ht_tree.specs.Clauses.{literals_of_each}
-use Rattle.ht_tree.specs.ClauseWindows.{ClauseWindow}
-use Rattle.ht_tree.specs.ClauseSearches.{guide_under}
+use Rattle.ht_tree.specs.Walk.Searches.{node_at}
+use Rattle.ht_tree.specs.Window.Windows.{SearchWindow}
+use Rattle.ht_tree.specs.Window.WindowStatus.{status_at, without_place}
+use Rattle.ht_tree.specs.Clause.Clauses.{literals_of_each}
+use Rattle.ht_tree.specs.Clause.ClauseWindows.{ClauseWindow}
+use Rattle.ht_tree.specs.Clause.ClauseSearches.{guide_under}
 use Rattle.ht_search.specs.Outcomes.{IsOutcome}
 use Rattle.ht_oneframe.proofs.FoundLaws.{leaves_sure}
 use Rattle.ht_invariant.specs.declared.sought.Sought.{Sought}

@@ -1,8 +1,8 @@
 use Rattle.std.proofs.Common.{subst, arith}
-use Rattle.ht_tree.specs.Walks.{Node}
+use Rattle.ht_tree.specs.Walk.Walks.{Node}
 use Rattle.ht_search.specs.Outcomes.{IsOutcome}
 use Rattle.ht_search.proofs.WindowStepLaws.{window_node}
-use Rattle.ht_tree.specs.ClauseSearches.{guide_under}
+use Rattle.ht_tree.specs.Clause.ClauseSearches.{guide_under}
 use Rattle.ht_invariant.specs.Trials.{clause_window}
 use Rattle.ht_invariant.proofs.trial.explore_under.Goals as goal
 

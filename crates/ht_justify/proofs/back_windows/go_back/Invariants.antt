@@ -1,6 +1,6 @@
 use Rattle.std.proofs.Common.{◌≡◌, ◌≤◌, ◌∷◌, ℕ, List, length, reverse}
 use Rattle.ht_tern.specs.declared.tern.Tern.{Tern}
-use Rattle.ht_net.specs.Netlist.{Netlist}
+use Rattle.ht_net.specs.Circuit.Netlist.{Netlist}
 use Rattle.ht_search.specs.Routes.{back_to, stops}
 use Rattle.ht_justify.specs.Stacks.{AreUnder, route_at}
 use Rattle.ht_justify.proofs.back_windows.go_back.Given as goal

@@ -1,7 +1,7 @@
 use Rattle.std.proofs.Common.{◌≡◌, ◌+◌, map}
 use Rattle.std.specs.List.{range_with_len}
-use Rattle.ht_tree.specs.Decisions.{decided_value}
-use Rattle.ht_tree.specs.Nodes.{or_unknown}
+use Rattle.ht_tree.specs.Window.Decisions.{decided_value}
+use Rattle.ht_tree.specs.Window.Nodes.{or_unknown}
 use Rattle.ht_justify.proofs.cube.decided_cube.Given as goal
 
 abbrev pub invariant-loop-j : goal.invariant-loop-j

@@ -1,5 +1,5 @@
 use Rattle.std.proofs.Common.{◌≡◌, drop}
-use Rattle.ht_tree.specs.AimedAttempts.{is_wanting}
+use Rattle.ht_tree.specs.Record.AimedAttempts.{is_wanting}
 use Rattle.ht_justify.proofs.cube.is_wanting.Given as goal
 
 abbrev pub invariant-loop-value : goal.invariant-loop-value

@@ -1,6 +1,6 @@
 use Rattle.std.proofs.Common.{◌∙◌, subst}
-use Rattle.ht_tree.specs.Searches.{guide_of}
-use Rattle.ht_tree.specs.Windows.{SearchWindow}
+use Rattle.ht_tree.specs.Walk.Searches.{guide_of}
+use Rattle.ht_tree.specs.Window.Windows.{SearchWindow}
 use Rattle.ht_search.specs.Outcomes.{IsOutcome}
 use Rattle.ht_justify.specs.BackStates.{node_here}
 use Rattle.ht_justify.proofs.AnswerLaws.{search_answers}

@@ -1,5 +1,5 @@
 use Rattle.std.proofs.Common.{take}
-use Rattle.ht_net.specs.Detection.{Allows}
+use Rattle.ht_net.specs.Detect.Detection.{Allows}
 use Rattle.ht_net.proofs.start.allows.Given as goal
 
 abbrev pub invariant-loop-j : goal.invariant-loop-j

@@ -1,7 +1,7 @@
 use Rattle.std.proofs.Common.{◌++◌, ◌∷◌, ◌∙◌, [], List, Bool, map, take, ap, sym}
 use Rattle.std.proofs.lemmas.List.{get_or_default, map_more}
 use Rattle.ht_tern.specs.declared.tern.Tern.TheVariants.{Zero, Unk}
-use Rattle.ht_net.specs.Detection.{some_bit}
+use Rattle.ht_net.specs.Detect.Detection.{some_bit}
 use Rattle.ht_net.proofs.start.some_state.Goals as goal
 
 pub loop-value-preserved : goal.loop-value-preserved

@@ -1,5 +1,5 @@
 use Rattle.std.proofs.Common.{◌≡◌, map, take}
-use Rattle.ht_net.specs.Detection.{some_bit}
+use Rattle.ht_net.specs.Detect.Detection.{some_bit}
 use Rattle.ht_net.proofs.start.some_state.Given as goal
 
 abbrev pub invariant-loop-value : goal.invariant-loop-value

@@ -1,6 +1,6 @@
 use Rattle.std.proofs.Common.{◌∙◌, List, Bool, ap}
 use Rattle.std.proofs.lemmas.Result.{IfOk-weaker}
-use Rattle.ht_tree.specs.Windows as windows
+use Rattle.ht_tree.specs.Window.Windows as windows
 use Rattle.ht_window.specs.Starts.{marked}
 use Rattle.ht_oneframe.proofs.round.one_frame_window.Goals as goal
 

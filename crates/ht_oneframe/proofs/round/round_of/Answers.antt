@@ -2,9 +2,9 @@ use Rattle.std.proofs.Common.{◌∙◌, ◌+◌, List, length, ap, sym, subst}
 use Rattle.ht_tree.specs.declared.token.Token.{Token}
 use Rattle.ht_tree.specs.declared.window.Spot.{Spot}
 use Rattle.ht_tree.specs.declared.window.Status.TheVariants.{Sure}
-use Rattle.ht_tree.specs.Searches.{Closes, SpendsAt, node_at}
-use Rattle.ht_tree.specs.Windows.{SearchWindow}
-use Rattle.ht_tree.specs.WindowStatus.{status_at}
+use Rattle.ht_tree.specs.Walk.Searches.{Closes, SpendsAt, node_at}
+use Rattle.ht_tree.specs.Window.Windows.{SearchWindow}
+use Rattle.ht_tree.specs.Window.WindowStatus.{status_at}
 use Rattle.ht_oneframe.specs.Rounds.{assigns_below}
 use Rattle.ht_oneframe.proofs.FoundLaws.{frame_found}
 use Rattle.ht_oneframe.proofs.round.round_of.Goals as goal

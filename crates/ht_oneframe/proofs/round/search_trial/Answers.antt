@@ -1,7 +1,7 @@
 use Rattle.std.proofs.Common.{◌∙◌, ap, sym, subst}
-use Rattle.ht_tree.specs.Searches.{guide_of, node_at}
-use Rattle.ht_tree.specs.Windows.{SearchWindow}
-use Rattle.ht_tree.specs.WindowStatus.{status_at, without_place}
+use Rattle.ht_tree.specs.Walk.Searches.{guide_of, node_at}
+use Rattle.ht_tree.specs.Window.Windows.{SearchWindow}
+use Rattle.ht_tree.specs.Window.WindowStatus.{status_at, without_place}
 use Rattle.ht_tree.proofs.DifferenceLaws.{window_stays}
 use Rattle.ht_search.specs.Outcomes.{IsOutcome}
 use Rattle.ht_oneframe.specs.Rounds.{guide_in}

@@ -1,6 +1,6 @@
 use Rattle.std.proofs.Common.{◌≡◌, ◌<◌, List, ℕ, length, get_or, refl, sym, ◌∙◌, ap, subst, arith}
 use Rattle.std.proofs.lemmas.List.{length-set}
-use Rattle.ht_net.specs.Detection.{IsFirstFrom, IsPlace}
+use Rattle.ht_net.specs.Detect.Detection.{IsFirstFrom, IsPlace}
 use Rattle.ht_faults.specs.Classes.{fault_at, own_representatives}
 use Rattle.ht_faults.proofs.OwnLaws.{own_below, own_within}
 use Rattle.ht_proofs.specs.PackedView.{verdict_at}

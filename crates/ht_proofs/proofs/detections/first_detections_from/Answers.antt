@@ -1,6 +1,6 @@
 use Rattle.std.proofs.Common.{ℕ, List, Option, [], ◌∙◌, sym, subst}
 use Rattle.ht_net.specs.declared.place.Place.{Place}
-use Rattle.ht_net.specs.Netlist.{Netlist}
+use Rattle.ht_net.specs.Circuit.Netlist.{Netlist}
 use Rattle.ht_proofs.specs.Detections.{AreFirstDetections, AreWithin}
 use Rattle.ht_proofs.proofs.detections.first_detections_from.Goals as goal
 

@@ -1,8 +1,8 @@
 use Rattle.std.proofs.Common.{◌≡◌, ◌+◌, ◌∙◌, ℕ, List, Option, None, get_or, length, ap, arith}
 use Rattle.ht_tern.specs.declared.tern.Tern.{Tern}
 use Rattle.ht_tern.specs.declared.tern.Tern.TheVariants.{Unk}
-use Rattle.ht_tree.specs.Decisions.{decided_value}
-use Rattle.ht_tree.specs.Nodes.{or_unknown}
+use Rattle.ht_tree.specs.Window.Decisions.{decided_value}
+use Rattle.ht_tree.specs.Window.Nodes.{or_unknown}
 use Rattle.ht_tree.proofs.MemberLaws.{listed_by}
 use Rattle.ht_recompute.proofs.cube.decided_cube.Goals as goal
 

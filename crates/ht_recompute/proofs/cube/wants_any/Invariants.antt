@@ -1,6 +1,6 @@
 use Rattle.std.proofs.Common.{◌≡◌, drop}
 use Rattle.std.specs.List.{list_any}
-use Rattle.ht_tree.specs.WindowStatus.{is_definite}
+use Rattle.ht_tree.specs.Window.WindowStatus.{is_definite}
 use Rattle.ht_recompute.proofs.cube.wants_any.Given as goal
 
 abbrev pub invariant-loop-value : goal.invariant-loop-value

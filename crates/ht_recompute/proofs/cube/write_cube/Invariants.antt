@@ -1,6 +1,6 @@
 use Rattle.std.proofs.Common.{◌≡◌, ◌<◌, ◌+◌, ℕ, get_or, None}
 use Rattle.ht_tern.specs.declared.tern.Tern.TheVariants.{Unk}
-use Rattle.ht_tree.specs.Nodes.{or_unknown}
+use Rattle.ht_tree.specs.Window.Nodes.{or_unknown}
 use Rattle.ht_recompute.proofs.cube.write_cube.Given as goal
 
 abbrev pub invariant-loop-j : goal.invariant-loop-j

@@ -1,5 +1,5 @@
 use Rattle.std.proofs.Common.{◌≡◌, ◌<◌, ℕ, length, get_or, take, None}
-use Rattle.ht_tree.specs.Decisions.{decided_value}
+use Rattle.ht_tree.specs.Window.Decisions.{decided_value}
 use Rattle.ht_recompute.proofs.decisions.write_decisions.Given as goal
 
 abbrev pub invariant-loop-decision : goal.invariant-loop-decision

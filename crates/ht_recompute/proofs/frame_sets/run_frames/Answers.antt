@@ -1,6 +1,6 @@
 use Rattle.std.proofs.Common.{◌≡◌, ◌*◌, ◌+◌, ◌-◌, ◌∙◌, ℕ, ap, flat_map}
 use Rattle.std.specs.List.{range_with_len}
-use Rattle.ht_net.specs.Netlist.{Netlist}
+use Rattle.ht_net.specs.Circuit.Netlist.{Netlist}
 use Rattle.ht_recompute.specs.declared.differences.Differences.{Differences}
 use Rattle.ht_recompute.specs.Differences.{differences_in, in_either}
 use Rattle.ht_recompute.specs.FrameSetsOf.{outputs_of_frame}

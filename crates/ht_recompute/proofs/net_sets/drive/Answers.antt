@@ -4,7 +4,7 @@ use Rattle.std.proofs.lemmas.List.{get_or_read}
 use Rattle.ht_tern.specs.declared.tern.Tern.TheVariants.{Unk}
 use Rattle.ht_pairs.specs.Pairs.{Pair, pair}
 use Rattle.ht_events.proofs.ScheduleLaws.{readers_known}
-use Rattle.ht_tree.specs.Windows.{pair_set_rules}
+use Rattle.ht_tree.specs.Window.Windows.{pair_set_rules}
 use Rattle.ht_recompute.specs.GateSets.{sets_of}
 use Rattle.ht_recompute.proofs.NetSetLaws.{source_quiet}
 use Rattle.ht_recompute.proofs.net_sets.drive.Goals as goal

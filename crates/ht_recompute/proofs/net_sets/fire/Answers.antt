@@ -1,8 +1,8 @@
 use Rattle.std.proofs.Common.{◌≡◌, ◌+◌, ◌-◌, ◌∙◌, List, Bool, ℕ, false, length, ap, arith}
 use Rattle.std.proofs.lemmas.List.{length-set}
-use Rattle.ht_net.specs.Netlist.{first_gate_net}
+use Rattle.ht_net.specs.Circuit.Netlist.{first_gate_net}
 use Rattle.ht_events.proofs.ScheduleLaws.{readers_known, readers_later, touched_as_before, rank_taken}
-use Rattle.ht_tree.specs.Windows.{pair_set_rules}
+use Rattle.ht_tree.specs.Window.Windows.{pair_set_rules}
 use Rattle.ht_recompute.proofs.NetSetLaws.{fired_quiet, gate_of_rank}
 use Rattle.ht_recompute.proofs.net_sets.fire.Goals as goal
 

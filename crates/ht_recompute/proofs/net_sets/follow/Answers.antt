@@ -1,5 +1,5 @@
 use Rattle.std.proofs.Common.{◌≡◌, ◌-◌, ◌∙◌, ℕ, ap, arith}
-use Rattle.ht_tree.specs.Windows.{pair_set_rules}
+use Rattle.ht_tree.specs.Window.Windows.{pair_set_rules}
 use Rattle.ht_recompute.specs.GateSets.{sets_of}
 use Rattle.ht_recompute.proofs.NetSetLaws.{settled_have}
 use Rattle.ht_recompute.proofs.net_sets.follow.Goals as goal

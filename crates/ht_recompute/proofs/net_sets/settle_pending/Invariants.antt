@@ -1,5 +1,5 @@
 use Rattle.std.proofs.Common.{◌≡◌, ◌<◌, ◌≤◌, ◌-◌, ℕ, false, get_or}
-use Rattle.ht_net.specs.Netlist.{first_gate_net, net_count}
+use Rattle.ht_net.specs.Circuit.Netlist.{first_gate_net, net_count}
 use Rattle.ht_recompute.specs.GateSets.{AreQuietSettled, sets_of}
 use Rattle.ht_recompute.proofs.net_sets.settle_pending.Given as goal
 

@@ -1,5 +1,5 @@
 use Rattle.std.proofs.Common.{◌≡◌, ◌++◌, take, drop}
-use Rattle.ht_net.specs.Frame.{values_at}
+use Rattle.ht_net.specs.Frames.Frame.{values_at}
 use Rattle.ht_recompute.specs.GateSets.{sets_of}
 use Rattle.ht_recompute.proofs.net_sets.show.Given as goal
 

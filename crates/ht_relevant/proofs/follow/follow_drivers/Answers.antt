@@ -1,7 +1,7 @@
 use Rattle.std.proofs.Common.{◌-◌, ◌+◌, ap, subst, arith}
 use Rattle.std.specs.List.{Contains}
 use Rattle.ht_net.specs.declared.net.NetId.{NetId}
-use Rattle.ht_net.specs.Netlist.{IsCircuit}
+use Rattle.ht_net.specs.Circuit.Netlist.{IsCircuit}
 use Rattle.ht_relevant.proofs.DriverLaws.{gate_followed, latch_followed, input_followed}
 use Rattle.ht_relevant.proofs.follow.follow_drivers.Goals as goal
 

@@ -1,6 +1,6 @@
 use Rattle.std.proofs.Common.{◌≡◌, ◌<◌, List, length, get_or, ap, arith}
 use Rattle.ht_net.specs.declared.net.NetId.{NetId}
-use Rattle.ht_net.specs.Netlist.{arg_at, gate_at, no_net}
+use Rattle.ht_net.specs.Circuit.Netlist.{arg_at, gate_at, no_net}
 use Rattle.ht_relevant.proofs.PutLaws.{net_at, none_put, one_more_put, still_inside}
 use Rattle.ht_relevant.proofs.follow.put_arguments.Goals as goal
 

@@ -1,4 +1,4 @@
-use Rattle.ht_net.specs.Netlist.{arg_at}
+use Rattle.ht_net.specs.Circuit.Netlist.{arg_at}
 use Rattle.ht_relevant.proofs.PutLaws.{HavePut}
 use Rattle.ht_relevant.proofs.follow.put_arguments.Given as goal
 

@@ -1,5 +1,5 @@
 use Rattle.std.proofs.Common.{subst}
-use Rattle.ht_tree.specs.Searches.{SpendsAt}
+use Rattle.ht_tree.specs.Walk.Searches.{SpendsAt}
 use Rattle.ht_tree.proofs.CountLaws.{enough}
 use Rattle.ht_search.proofs.EndLaws.{spends}
 use Rattle.ht_search.proofs.outcome.search.Goals as goal

@@ -1,7 +1,7 @@
 use Rattle.std.proofs.Common.{◌∙◌, None, Some, length, ap, arith, sym}
 use Rattle.ht_tern.specs.declared.tern.Tern.{Tern}
 use Rattle.ht_net.specs.declared.place.Place.{Place}
-use Rattle.ht_net.specs.Detection.{unknown_state}
+use Rattle.ht_net.specs.Detect.Detection.{unknown_state}
 use Rattle.ht_serial.specs.Contradictions.{Contradicts}
 use Rattle.ht_serial.specs.MachineState.{MachineState}
 use Rattle.ht_serial.proofs.ContradictionLaws.{first_here, none_before, none_more}

@@ -1,5 +1,5 @@
 use Rattle.std.proofs.Common.{◌≡◌, ◌<◌, ℕ}
-use Rattle.ht_net.specs.Detection.{unknown_state}
+use Rattle.ht_net.specs.Detect.Detection.{unknown_state}
 use Rattle.ht_serial.specs.Contradictions.{Contradicts}
 use Rattle.ht_serial.proofs.RowLaws.{after_first}
 use Rattle.ht_serial.proofs.contradiction.first_contradiction.Given as goal

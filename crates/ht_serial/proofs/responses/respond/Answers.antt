@@ -1,7 +1,7 @@
 use Rattle.std.proofs.Common.{◌<◌, ◌∙◌, List, [], length, ap, arith, sym}
 use Rattle.std.proofs.lemmas.List.{take_all}
 use Rattle.ht_tern.specs.declared.tern.Tern.{Tern}
-use Rattle.ht_net.specs.Detection.{outputs_from}
+use Rattle.ht_net.specs.Detect.Detection.{outputs_from}
 use Rattle.ht_serial.specs.ObservationView.{ObservationView}
 use Rattle.ht_serial.proofs.RowLaws.{of_rows, ran_more, rows_count, rows_wide, shown_more}
 use Rattle.ht_serial.proofs.responses.respond.Goals as goal

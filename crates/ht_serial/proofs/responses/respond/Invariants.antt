@@ -1,5 +1,5 @@
 use Rattle.std.proofs.Common.{◌≡◌, length, take}
-use Rattle.ht_net.specs.Detection.{outputs_from}
+use Rattle.ht_net.specs.Detect.Detection.{outputs_from}
 use Rattle.ht_serial.proofs.RowLaws.{after_first, of_rows}
 use Rattle.ht_serial.proofs.responses.respond.Given as goal
 

@@ -1,5 +1,5 @@
 use Rattle.std.proofs.Common.{◌≡◌, ◌++◌, map, take}
-use Rattle.ht_net.specs.Named.{name_of}
+use Rattle.ht_net.specs.Build.Named.{name_of}
 use Rattle.ht_statement.specs.StatementText.{arguments_text}
 use Rattle.ht_statement.proofs.statement_text.push_arguments.Given as goal
 

@@ -1,6 +1,6 @@
 use Rattle.std.proofs.Common.{◌≡◌, ◌<◌, List, length, get_or, refl, sym, ap, arith}
 use Rattle.ht_net.specs.declared.net.NetId.{NetId}
-use Rattle.ht_net.specs.Netlist.{gate_at, arg_at, no_net}
+use Rattle.ht_net.specs.Circuit.Netlist.{gate_at, arg_at, no_net}
 use Rattle.ht_stems.specs.declared.net_loads.NetLoads.TheVariants.{OneGate}
 use Rattle.ht_stems.proofs.ReadLaws.{times_some}
 use Rattle.ht_stems.proofs.CountLaws.{counted_none, counted_all, counted_more}

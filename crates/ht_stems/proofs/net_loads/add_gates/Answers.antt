@@ -1,7 +1,7 @@
 use Rattle.std.proofs.Common.{◌<◌, length, take, arith}
 use Rattle.std.specs.List.{sum_by}
-use Rattle.ht_net.specs.Netlist.{Gate}
-use Rattle.ht_net.specs.Levels.{times}
+use Rattle.ht_net.specs.Circuit.Netlist.{Gate}
+use Rattle.ht_net.specs.Circuit.Levels.{times}
 use Rattle.ht_stems.proofs.CountLaws.{entries_left, none_counted, gate_counted, gates_counted}
 use Rattle.ht_stems.proofs.net_loads.add_gates.Goals as goal
 

@@ -1,6 +1,6 @@
 use Rattle.std.proofs.Common.{◌≡◌, List, length, sym, subst, arith}
 use Rattle.std.proofs.lemmas.List.{with_items_is}
-use Rattle.ht_net.specs.Netlist.{net_count}
+use Rattle.ht_net.specs.Circuit.Netlist.{net_count}
 use Rattle.ht_stems.specs.declared.net_loads.NetLoads.{NetLoads}
 use Rattle.ht_stems.specs.LoadsOfNets.{AreLoads}
 use Rattle.ht_stems.proofs.net_loads.find_loads.Goals as goal

@@ -1,7 +1,7 @@
 use Rattle.std.proofs.Common.{◌∙◌, None, length, map, ap, sym}
 use Rattle.ht_tern.specs.declared.tern.Tern.{Tern}
-use Rattle.ht_net.specs.Detection.{terns_of, unknown_state}
-use Rattle.ht_tree.specs.WalkBack.{wants_one}
+use Rattle.ht_net.specs.Detect.Detection.{terns_of, unknown_state}
+use Rattle.ht_tree.specs.Window.WalkBack.{wants_one}
 use Rattle.ht_records.proofs.RunStateLaws.{run_held, unknown_held}
 use Rattle.ht_serial.specs.MachineState.{MachineState}
 use Rattle.ht_sync.proofs.SyncLaws.{synchronizes_to}

@@ -1,5 +1,5 @@
 use Rattle.std.proofs.Common.{List, sym, subst}
-use Rattle.ht_tree.specs.Searches.{Closes, SpendsAt, node_at}
+use Rattle.ht_tree.specs.Walk.Searches.{Closes, SpendsAt, node_at}
 use Rattle.ht_tree.specs.declared.token.Token.{Token}
 use Rattle.ht_sync.specs.SyncWindows.{sync_guide}
 use Rattle.ht_sync.proofs.length.answer.Goals as goal

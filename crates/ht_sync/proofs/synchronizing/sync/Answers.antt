@@ -1,5 +1,5 @@
 use Rattle.std.proofs.Common.{◌<◌, length, subst, arith}
-use Rattle.ht_net.specs.Netlist.{Netlist}
+use Rattle.ht_net.specs.Circuit.Netlist.{Netlist}
 use Rattle.ht_forward.specs.LengthAnswers.{FindsAfter}
 use Rattle.ht_forward.specs.Lengths.{SpendEach}
 use Rattle.ht_sync.specs.SyncSearches.{FindsSyncList}

@@ -1,6 +1,6 @@
 use Rattle.std.proofs.Common.{ℕ, subst}
-use Rattle.ht_tree.specs.Searches.{node_at}
-use Rattle.ht_tree.specs.Walks.{Node}
+use Rattle.ht_tree.specs.Walk.Searches.{node_at}
+use Rattle.ht_tree.specs.Walk.Walks.{Node}
 use Rattle.ht_search.specs.Outcomes.{IsOutcome}
 use Rattle.ht_search.proofs.WindowStepLaws.{window_node}
 use Rattle.ht_forward.specs.Goals.{guide_to}

@@ -1,7 +1,7 @@
 use Rattle.std.proofs.Common.{◌++◌, ℕ, List, Some, refl, subst}
 use Rattle.std.specs.Prelude.{codes}
 use Rattle.std.specs.Fmt.{decimal}
-use Rattle.ht_net.specs.Netlist.{Netlist}
+use Rattle.ht_net.specs.Circuit.Netlist.{Netlist}
 use Rattle.ht_texts.specs.Fronts.{IsRestAfter, Strips}
 use Rattle.ht_texts.specs.Pieces.{Piece, pieces_text}
 use Rattle.ht_texts.specs.Reports.{circuit_sizes, fault_sizes, head_line}

@@ -1,7 +1,7 @@
 use Rattle.std.proofs.Common.{◌≡◌, ◌∙◌, ◌<◌, List, Bool, true, length, get_or, ap, arith}
 use Rattle.std.proofs.lemmas.List.{length-set}
 use Rattle.ht_net.specs.declared.net.NetId.{NetId}
-use Rattle.ht_net.specs.Netlist.{IsCircuit, arg_at, gate_at, no_net}
+use Rattle.ht_net.specs.Circuit.Netlist.{IsCircuit, arg_at, gate_at, no_net}
 use Rattle.ht_uninit.proofs.ExposedLaws.{argument_step, gate_done, work_step}
 use Rattle.ht_uninit.proofs.exposed.mark_arguments.Goals as goal
 

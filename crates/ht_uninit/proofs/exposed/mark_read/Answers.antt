@@ -1,5 +1,5 @@
 use Rattle.std.proofs.Common.{◌≡◌, ◌∙◌, ◌+◌, ◌-◌, ℕ, ap, arith, subst}
-use Rattle.ht_net.specs.Netlist.{IsCircuit, first_gate_net}
+use Rattle.ht_net.specs.Circuit.Netlist.{IsCircuit, first_gate_net}
 use Rattle.ht_faults.specs.Sites.{data_net}
 use Rattle.ht_uninit.specs.Exposed.{AreExposed}
 use Rattle.ht_uninit.proofs.ExposedLaws.{input_done, latch_step}

@@ -1,6 +1,6 @@
 use Rattle.std.proofs.Common.{sym, subst}
 use Rattle.ht_search.specs.Outcomes.{IsOutcome}
-use Rattle.ht_tree.specs.Searches.{node_at}
+use Rattle.ht_tree.specs.Walk.Searches.{node_at}
 use Rattle.ht_uninit.specs.HeldSearches.{ClosesUnknown, SpendsHeld}
 use Rattle.ht_uninit.specs.HeldWindows.{held_guide}
 use Rattle.ht_uninit.proofs.net_search.said.Goals as goal

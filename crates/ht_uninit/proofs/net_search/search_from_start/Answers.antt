@@ -1,8 +1,8 @@
 use Rattle.std.proofs.Common.{◌∙◌, ap, sym, subst}
 use Rattle.ht_search.proofs.WindowStepLaws.{window_node}
 use Rattle.ht_search.specs.Outcomes.{IsOutcome}
-use Rattle.ht_tree.specs.Searches.{node_at}
-use Rattle.ht_tree.specs.Walks.{Node}
+use Rattle.ht_tree.specs.Walk.Searches.{node_at}
+use Rattle.ht_tree.specs.Walk.Walks.{Node}
 use Rattle.ht_uninit.specs.HeldStates.{HeldNet, guide_for}
 use Rattle.ht_uninit.specs.Rounds.{IsOutput}
 use Rattle.ht_uninit.proofs.net_search.search_from_start.Goals as goal

@@ -2,8 +2,8 @@ use Rattle.std.proofs.Common.{◌≡◌, ◌<◌, ◌∙◌, ◌+◌, ℕ, List,
 use Rattle.std.proofs.lemmas.Result.{IfOk-weaker}
 use Rattle.ht_faults.specs.Sites.{data_net}
 use Rattle.ht_net.specs.declared.net.NetId.{NetId}
-use Rattle.ht_net.specs.Netlist.{Netlist}
-use Rattle.ht_tree.specs.Decisions.{is_in}
+use Rattle.ht_net.specs.Circuit.Netlist.{Netlist}
+use Rattle.ht_tree.specs.Window.Decisions.{is_in}
 use Rattle.ht_uninit.specs.declared.record.Removed.{Removed}
 use Rattle.ht_uninit.specs.declared.record.Removed.TheVariants.{Free, Spent}
 use Rattle.ht_uninit.specs.declared.rounds.Rounds.{Rounds}

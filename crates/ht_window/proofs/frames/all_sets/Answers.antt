@@ -1,7 +1,7 @@
 use Rattle.std.proofs.Common.{◌≡◌, ◌∙◌, ◌++◌, List, ap, arith, length}
 use Rattle.std.proofs.lemmas.List.{with_items_is}
 use Rattle.ht_pairs.specs.Pairs.{Pair}
-use Rattle.ht_net.specs.Netlist.{Netlist, net_count}
+use Rattle.ht_net.specs.Circuit.Netlist.{Netlist, net_count}
 use Rattle.ht_window.proofs.AllSetsLaws.{first_frame, no_frame, one_more_frame}
 use Rattle.ht_window.proofs.frames.all_sets.Goals as goal
 

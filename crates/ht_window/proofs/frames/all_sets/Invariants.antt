@@ -1,6 +1,6 @@
 use Rattle.std.proofs.Common.{◌≡◌, length}
-use Rattle.ht_net.specs.Netlist.{net_count}
-use Rattle.ht_tree.specs.Windows.{latches_at}
+use Rattle.ht_net.specs.Circuit.Netlist.{net_count}
+use Rattle.ht_tree.specs.Window.Windows.{latches_at}
 use Rattle.ht_window.proofs.AllSetsLaws.{HasFrames}
 use Rattle.ht_window.proofs.frames.all_sets.Given as goal
 

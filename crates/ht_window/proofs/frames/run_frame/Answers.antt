@@ -1,8 +1,8 @@
 use Rattle.std.proofs.Common.{◌≡◌, ◌<◌, ◌∙◌, ℕ, sym, subst}
-use Rattle.ht_net.specs.Netlist.{Netlist, net_count}
-use Rattle.ht_net.specs.Frame.{data_values, net_value}
+use Rattle.ht_net.specs.Circuit.Netlist.{Netlist, net_count}
+use Rattle.ht_net.specs.Frames.Frame.{data_values, net_value}
 use Rattle.ht_frame.specs.Values.{env_of}
-use Rattle.ht_tree.specs.Windows.{cell_at, pair_set_rules}
+use Rattle.ht_tree.specs.Window.Windows.{cell_at, pair_set_rules}
 use Rattle.ht_window.specs.Cells.{blank}
 use Rattle.ht_window.proofs.AllSetsLaws.{latches_taken}
 use Rattle.ht_window.proofs.frames.run_frame.Goals as goal

@@ -1,5 +1,5 @@
 use Rattle.std.proofs.Common.{arith}
-use Rattle.ht_tree.specs.Windows.{first_input, input_set}
+use Rattle.ht_tree.specs.Window.Windows.{first_input, input_set}
 use Rattle.ht_tree.proofs.MemberLaws.{listed_by}
 use Rattle.ht_window.specs.Cells.{blank}
 use Rattle.ht_window.proofs.frames.write_inputs.Goals as goal

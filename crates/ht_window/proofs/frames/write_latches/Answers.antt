@@ -1,5 +1,5 @@
 use Rattle.std.proofs.Common.{◌≡◌, ◌+◌, ◌∙◌, ap, arith, length}
-use Rattle.ht_tree.specs.Windows.{first_latch}
+use Rattle.ht_tree.specs.Window.Windows.{first_latch}
 use Rattle.ht_tree.proofs.MemberLaws.{listed_by}
 use Rattle.ht_window.specs.Cells.{blank}
 use Rattle.ht_window.proofs.frames.write_latches.Goals as goal

@@ -1,5 +1,5 @@
 use Rattle.std.proofs.Common.{◌≡◌, ◌<◌, ℕ, get_or}
-use Rattle.ht_tree.specs.Windows.{first_latch}
+use Rattle.ht_tree.specs.Window.Windows.{first_latch}
 use Rattle.ht_window.specs.Cells.{blank}
 use Rattle.ht_window.proofs.frames.write_latches.Given as goal
 

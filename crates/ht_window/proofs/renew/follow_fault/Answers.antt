@@ -1,7 +1,7 @@
 use Rattle.std.proofs.Common.{◌≡◌, ◌<◌, ◌≤◌, ◌∙◌, true, ℕ, Option, ap, sym, subst}
 use Rattle.ht_net.specs.declared.fault.Fault.{Fault}
-use Rattle.ht_net.specs.Netlist.{net_count, first_gate_net}
-use Rattle.ht_tree.specs.Windows.{IsWindow}
+use Rattle.ht_net.specs.Circuit.Netlist.{net_count, first_gate_net}
+use Rattle.ht_tree.specs.Window.Windows.{IsWindow}
 use Rattle.ht_relevant.specs.Near.{RelevantState}
 use Rattle.ht_relevant.specs.Reached.{begins_at}
 use Rattle.ht_relevant.specs.Relevant.{IsClosedBack}

@@ -1,5 +1,5 @@
 use Rattle.std.proofs.Common.{◌<◌, ◌∙◌, ap, sym, subst}
-use Rattle.ht_net.specs.Netlist.{net_count}
+use Rattle.ht_net.specs.Circuit.Netlist.{net_count}
 use Rattle.ht_window.specs.Holding.{HeldState}
 use Rattle.ht_window.specs.Renewals.{HoldsOrPends, IsRenewed}
 use Rattle.ht_window.proofs.RenewLaws.{renewed_write}

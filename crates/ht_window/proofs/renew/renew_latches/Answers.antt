@@ -1,5 +1,5 @@
 use Rattle.std.proofs.Common.{◌≡◌, ◌+◌, ◌-◌, ◌∙◌, ℕ, ap, arith, length, subst}
-use Rattle.ht_net.specs.Netlist.{Netlist, net_count}
+use Rattle.ht_net.specs.Circuit.Netlist.{Netlist, net_count}
 use Rattle.ht_window.specs.Standing.{Standing}
 use Rattle.ht_window.specs.Renewals.{HoldsOrPends}
 use Rattle.ht_window.proofs.LegalLaws.{legal_frame}

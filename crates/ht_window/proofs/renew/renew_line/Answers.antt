@@ -1,5 +1,5 @@
 use Rattle.std.proofs.Common.{◌≡◌, ◌<◌, ◌∙◌, ℕ, ap, sym, arith, subst, Some}
-use Rattle.ht_net.specs.Netlist.{Netlist, net_count}
+use Rattle.ht_net.specs.Circuit.Netlist.{Netlist, net_count}
 use Rattle.ht_window.specs.Standing.{Standing}
 use Rattle.ht_relevant.specs.Reached.{begins_at}
 use Rattle.ht_window.specs.Renewals.{HoldsOrPends}

@@ -1,6 +1,6 @@
 use Rattle.std.proofs.Common.{◌≡◌, ◌<◌, ◌∙◌, ℕ, List, Bool, false, not, get_or, length, ap, sym, arith}
 use Rattle.std.proofs.lemmas.Result.{IfOk-weaker}
-use Rattle.ht_tree.specs.Windows.{one_frame}
+use Rattle.ht_tree.specs.Window.Windows.{one_frame}
 use Rattle.ht_window.specs.Starts.{start_of, marked}
 use Rattle.ht_window.proofs.RestrictLaws.{set_apart, set_counts}
 use Rattle.ht_window.proofs.restrict.relevant_to.Goals as goal

@@ -1,6 +1,6 @@
 use Rattle.std.proofs.Common.{◌∙◌, ap, sym, subst}
-use Rattle.ht_tree.specs.Walks.{Node}
-use Rattle.ht_tree.specs.Searches.{guide_of}
+use Rattle.ht_tree.specs.Walk.Walks.{Node}
+use Rattle.ht_tree.specs.Walk.Searches.{guide_of}
 use Rattle.ht_search.specs.Routes.{Route}
 use Rattle.ht_search.specs.Outcomes.{IsOutcome}
 use Rattle.ht_search.proofs.WindowStepLaws.{window_node}

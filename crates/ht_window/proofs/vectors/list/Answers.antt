@@ -1,8 +1,8 @@
 use Rattle.std.proofs.Common.{◌∙◌, ◌+◌, ◌*◌, ◌++◌, ◌∷◌, [], List, Bool, length, ap, sym, arith}
 use Rattle.std.proofs.lemmas.List.FromFn.{length-map-range_with_len, map-range_with_len_more}
-use Rattle.ht_net.specs.Rows.{Rows}
-use Rattle.ht_tree.specs.Decisions.{decided_value}
-use Rattle.ht_tree.specs.FoundLists.{bit_or_zero, vector_of}
+use Rattle.ht_net.specs.Frames.Rows.{Rows}
+use Rattle.ht_tree.specs.Window.Decisions.{decided_value}
+use Rattle.ht_tree.specs.Walk.FoundLists.{bit_or_zero, vector_of}
 use Rattle.ht_window.proofs.vectors.list.Goals as goal
 
 pub push-requires : goal.push-requires

@@ -1,5 +1,5 @@
 use Rattle.std.proofs.Common.{◌≡◌}
-use Rattle.ht_tree.specs.FoundLists.{list_of}
+use Rattle.ht_tree.specs.Walk.FoundLists.{list_of}
 use Rattle.ht_window.proofs.vectors.list.Given as goal
 
 abbrev pub invariant-loop-frame : goal.invariant-loop-frame

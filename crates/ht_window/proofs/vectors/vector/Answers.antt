@@ -1,7 +1,7 @@
 use Rattle.std.proofs.Common.{◌≡◌, ◌∙◌, ◌+◌, ◌*◌, ◌++◌, ◌∷◌, [], ℕ, Bool, ap, sym, arith}
 use Rattle.std.proofs.lemmas.List.FromFn.{map-range_with_len_more}
-use Rattle.ht_tree.specs.Decisions.{decided_value}
-use Rattle.ht_tree.specs.FoundLists.{bit_or_zero}
+use Rattle.ht_tree.specs.Window.Decisions.{decided_value}
+use Rattle.ht_tree.specs.Walk.FoundLists.{bit_or_zero}
 use Rattle.ht_window.proofs.vectors.vector.Goals as goal
 
 pub loop-i-preserved : goal.loop-i-preserved

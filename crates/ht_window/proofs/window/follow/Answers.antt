@@ -1,10 +1,10 @@
 use Rattle.std.proofs.Common.{◌≡◌, ◌∙◌, ℕ, List, ap, sym, arith, subst}
 use Rattle.ht_pairs.specs.Pairs.{Pair}
-use Rattle.ht_net.specs.Netlist.{Netlist}
+use Rattle.ht_net.specs.Circuit.Netlist.{Netlist}
 use Rattle.ht_trail.specs.Trails.{CellsState, IsLater}
 use Rattle.ht_trail.proofs.TrailLaws.{later_more}
 use Rattle.ht_tree.specs.declared.token.Assign3.{Assign3}
-use Rattle.ht_tree.specs.Windows.{SearchWindow, IsWindow}
+use Rattle.ht_tree.specs.Window.Windows.{SearchWindow, IsWindow}
 use Rattle.ht_events.specs.Plans.{PlanState}
 use Rattle.ht_events.specs.Items.{item_count, IsReader}
 use Rattle.ht_events.specs.Pending.{QuietAgree}

@@ -1,7 +1,7 @@
 use Rattle.std.proofs.Common.{arith, ◌<◌, ◌∙◌, ◌++◌, [], length, ap}
 use Rattle.std.specs.List.{All, filter}
 use Rattle.ht_net.specs.declared.net.NetId.{NetId}
-use Rattle.ht_net.specs.Netlist.{no_net}
+use Rattle.ht_net.specs.Circuit.Netlist.{no_net}
 use Rattle.ht_cubes.specs.Rails.{IsKnownRail}
 use Rattle.ht_cubes.specs.Cones.{marked}
 use Rattle.ht_cubes.specs.Formula.{may_come, output_targets, next_target}

@@ -1,6 +1,6 @@
 use Rattle.std.proofs.Common.{◌≡◌, ◌++◌, drop}
-use Rattle.ht_net.specs.Netlist.{gate_at}
-use Rattle.ht_net.specs.Frame.{pin_values}
+use Rattle.ht_net.specs.Circuit.Netlist.{gate_at}
+use Rattle.ht_net.specs.Frames.Frame.{pin_values}
 use Rattle.ht_cubes.specs.Cones.{marked}
 use Rattle.ht_cubes.specs.Formula.{net_signal, pin_signals, signal_rules}
 use Rattle.ht_cubes.proofs.machines.Machines.pins_of.Given as goal

@@ -1,5 +1,5 @@
 use Rattle.std.proofs.Common.{◌≡◌, ◌∙◌, ◌∷◌, ◌++◌, [], List, Bool, ap, subst}
-use Rattle.ht_net.specs.Rows.{Rows}
+use Rattle.ht_net.specs.Frames.Rows.{Rows}
 use Rattle.ht_proofs.specs.ClassGraderView.{ClassGraderStandsFor}
 use Rattle.ht_engine.specs.EngineOf.{engine_of}
 use Rattle.ht_engine.specs.EngineStands.{EngineView}

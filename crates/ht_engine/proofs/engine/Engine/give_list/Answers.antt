@@ -1,5 +1,5 @@
 use Rattle.std.proofs.Common.{◌∙◌, ◌+◌, inr, ap, sym, refl}
-use Rattle.ht_net.specs.Netlist.{Netlist}
+use Rattle.ht_net.specs.Circuit.Netlist.{Netlist}
 use Rattle.ht_engine.specs.EngineOf.{engine_of}
 use Rattle.ht_engine.specs.EngineStands.{EngineView}
 use Rattle.ht_engine.proofs.EngineLaws.{adds_graded}

@@ -1,7 +1,7 @@
 use Rattle.std.specs.Prelude.{◌≡◌, ◌<◌, ℕ, [], None, length, refl}
 use Rattle.std.proofs.Common.{arith, subst, sym, ◌∙◌}
 use Rattle.std.proofs.lemmas.List.Elements.{All-nil}
-use Rattle.ht_net.specs.Detection.{IsStart}
+use Rattle.ht_net.specs.Detect.Detection.{IsStart}
 use Rattle.ht_valid.specs.ValidFiles.{HasEntry}
 use Rattle.ht_engine.specs.FaultWork.{HoldsIfAny, IsNamedInvariant}
 use Rattle.ht_engine.specs.EngineStands.{EngineStandsFor, EngineView, HasGraded, IsKindIn, all_first, kind_at}

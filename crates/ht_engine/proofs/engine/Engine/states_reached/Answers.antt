@@ -1,5 +1,5 @@
 use Rattle.std.proofs.Common.{Some, None, ap, sym, subst, ◌∙◌}
-use Rattle.ht_net.specs.Detection.{IsStart}
+use Rattle.ht_net.specs.Detect.Detection.{IsStart}
 use Rattle.ht_faults.specs.Classes.{fault_at}
 use Rattle.ht_proofs.specs.Detections.{place_at}
 use Rattle.ht_engine.specs.EngineOf.{engine_of}

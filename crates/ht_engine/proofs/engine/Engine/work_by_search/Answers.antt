@@ -1,7 +1,7 @@
 use Rattle.std.proofs.Common.{◌≡◌, List, ap, subst, sym, ◌∙◌}
 use Rattle.ht_tern.specs.declared.tern.Tern.{Tern}
-use Rattle.ht_net.specs.Detection.{IsStart}
-use Rattle.ht_net.specs.Netlist.{Netlist}
+use Rattle.ht_net.specs.Detect.Detection.{IsStart}
+use Rattle.ht_net.specs.Circuit.Netlist.{Netlist}
 use Rattle.ht_engine.specs.EngineOf.{engine_of}
 use Rattle.ht_engine.specs.EngineStands.{EngineView}
 use Rattle.ht_engine.proofs.DeepLaws.{if_ok_three}

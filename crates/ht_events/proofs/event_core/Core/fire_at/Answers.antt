@@ -1,7 +1,7 @@
 use Rattle.std.proofs.Common.{◌≢◌, ◌<◌, inl, inr, ℕ, Ok, sym, ap, subst}
 use Rattle.std.proofs.lemmas.Bool.{cases_Bool}
 use Rattle.std.proofs.lemmas.Bool.Decides.{eqb_tells}
-use Rattle.ht_net.specs.Netlist.{Netlist}
+use Rattle.ht_net.specs.Circuit.Netlist.{Netlist}
 use Rattle.ht_events.specs.Items.{IsLoad, item_at, item_count}
 use Rattle.ht_events.specs.Plans.{PlanState}
 use Rattle.ht_events.specs.Pending.{IsPending, core_items}

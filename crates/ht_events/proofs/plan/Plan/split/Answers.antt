@@ -1,5 +1,5 @@
 use Rattle.std.proofs.Common.{◌≡◌, ◌<◌, ◌∙◌, arith, ap, subst}
-use Rattle.ht_net.specs.Netlist.{Netlist}
+use Rattle.ht_net.specs.Circuit.Netlist.{Netlist}
 use Rattle.ht_events.specs.Items.{frame_items, frame_of, item_count, local_of}
 use Rattle.ht_events.specs.FramePlans.{FramePlanState}
 use Rattle.ht_events.specs.Plans.{PlanState}

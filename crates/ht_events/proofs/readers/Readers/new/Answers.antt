@@ -1,6 +1,6 @@
 use Rattle.std.proofs.Common.{◌≡◌, ◌<◌, ◌+◌, ℕ, List, length, get_or, sym, ap, arith, subst}
 use Rattle.ht_net.specs.declared.net.NetId.{NetId}
-use Rattle.ht_net.specs.Netlist.{no_net, arg_at, gate_at}
+use Rattle.ht_net.specs.Circuit.Netlist.{no_net, arg_at, gate_at}
 use Rattle.ht_events.specs.declared.readers.NetRow.{NetRow}
 use Rattle.ht_events.specs.NetRows.{row_of}
 use Rattle.ht_events.proofs.RowLaws.{HasReader, rows_with, items_with, few_still}

@@ -1,5 +1,5 @@
 use Rattle.std.proofs.Common.{◌≡◌, ◌<◌, ◌+◌, ℕ, List, get_or, subst, sym, arith}
-use Rattle.ht_net.specs.Netlist.{first_gate_net}
+use Rattle.ht_net.specs.Circuit.Netlist.{first_gate_net}
 use Rattle.ht_events.specs.Ranks.{AreRanked}
 use Rattle.ht_events.specs.Schedules.{ReadsFrom}
 use Rattle.ht_events.proofs.ScheduleLaws.{rises_from}

@@ -2,11 +2,11 @@ use Rattle.std.proofs.Common.{◌<◌, ◌≡◌, ℕ, List, [], ◌∷◌, Some
 use Rattle.std.proofs.lemmas.List.{with_items_is}
 use Rattle.ht_tern.specs.declared.tern.Tern.TheVariants.{Unk}
 use Rattle.ht_pairs.specs.Pairs.{Pair, pair}
-use Rattle.ht_net.specs.Netlist.{net_count}
-use Rattle.ht_net.specs.Frame.{net_value, data_values}
+use Rattle.ht_net.specs.Circuit.Netlist.{net_count}
+use Rattle.ht_net.specs.Frames.Frame.{net_value, data_values}
 use Rattle.ht_frame.specs.Values.{env_of}
-use Rattle.ht_tree.specs.Windows.{pair_set_rules}
-use Rattle.ht_tree.specs.ClosedFamilies.{any_vector, Family}
+use Rattle.ht_tree.specs.Window.Windows.{pair_set_rules}
+use Rattle.ht_tree.specs.Record.ClosedFamilies.{any_vector, Family}
 use Rattle.ht_families.specs.FamilyFrames.{FrameView, after_family}
 use Rattle.ht_families.proofs.FamilyFrameLaws.{shown_by, taken_by}
 use Rattle.ht_families.proofs.frame.FamilyFrame.run.Goals as goal

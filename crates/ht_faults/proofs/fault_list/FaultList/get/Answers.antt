@@ -4,7 +4,7 @@ use Rattle.ht_net.specs.declared.fault.Site.{Site}
 use Rattle.ht_net.specs.declared.fault.Site.TheVariants.{Stem}
 use Rattle.ht_net.specs.declared.fault.Fault.{Fault}
 use Rattle.ht_faults.specs.Sites.{site_faults}
-use Rattle.ht_net.specs.Netlist.{no_net}
+use Rattle.ht_net.specs.Circuit.Netlist.{no_net}
 use Rattle.ht_faults.specs.FaultList.{no_fault}
 use Rattle.ht_faults.proofs.ListLaws.{faults_count, fault_at}
 use Rattle.ht_faults.proofs.fault_list.FaultList.get.Goals as goal

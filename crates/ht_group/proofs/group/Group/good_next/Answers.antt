@@ -1,7 +1,7 @@
 use Rattle.std.proofs.Common.{◌∙◌, None, ap, get_or}
 use Rattle.ht_net.specs.declared.net.NetId.{NetId}
-use Rattle.ht_net.specs.Netlist.{no_net}
-use Rattle.ht_net.specs.Faults.{tern_rules}
+use Rattle.ht_net.specs.Circuit.Netlist.{no_net}
+use Rattle.ht_net.specs.Frames.Faults.{tern_rules}
 use Rattle.ht_group.specs.NetValues.{good_value}
 use Rattle.ht_group.proofs.ShownLaws.{next_at, good_data_pin}
 use Rattle.ht_group.proofs.group.Group.good_next.Goals as goal

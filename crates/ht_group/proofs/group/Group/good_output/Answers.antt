@@ -1,6 +1,6 @@
 use Rattle.std.proofs.Common.{◌∙◌, None, ap}
 use Rattle.ht_net.specs.declared.net.NetId.{NetId}
-use Rattle.ht_net.specs.Faults.{tern_rules}
+use Rattle.ht_net.specs.Frames.Faults.{tern_rules}
 use Rattle.ht_group.specs.NetValues.{good_value}
 use Rattle.ht_group.proofs.ShownLaws.{shown_at}
 use Rattle.ht_group.proofs.group.Group.good_output.Goals as goal

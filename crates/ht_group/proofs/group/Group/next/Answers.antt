@@ -1,7 +1,7 @@
 use Rattle.std.specs.List.{slice_get}
 use Rattle.std.proofs.Common.{◌≡◌, ◌∙◌, ◌+◌, ◌*◌, Some, None, ap, sym, subst, arith, length}
 use Rattle.ht_net.specs.declared.net.NetId.{NetId}
-use Rattle.ht_net.specs.Faults.{tern_rules}
+use Rattle.ht_net.specs.Frames.Faults.{tern_rules}
 use Rattle.ht_group.specs.GroupView.{GroupView, lane_count}
 use Rattle.ht_group.specs.NetValues.{good_value, faulty_value}
 use Rattle.ht_group.specs.StuckTables.{AreStuck}

@@ -3,7 +3,7 @@ use Rattle.std.proofs.Common.{◌≡◌, ◌<◌, ◌∙◌, List, ℕ, true, le
 use Rattle.std.proofs.lemmas.List.{with_items_is, length-map}
 use Rattle.std.proofs.Math.Seq.{take-append_seam, drop-append_seam}
 use Rattle.ht_tern.specs.Gate.{tern_of}
-use Rattle.ht_net.specs.Detection.{terns_of}
+use Rattle.ht_net.specs.Detect.Detection.{terns_of}
 use Rattle.ht_group.specs.MachineWords.{IsBare, machines_of}
 use Rattle.ht_group.specs.GroupView.{GroupView}
 use Rattle.ht_group.specs.declared.machines.Machines.{Machines}

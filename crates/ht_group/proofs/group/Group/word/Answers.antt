@@ -1,5 +1,5 @@
 use Rattle.std.proofs.Common.{◌∙◌, length, ap, arith}
-use Rattle.ht_net.specs.Netlist.{net_count}
+use Rattle.ht_net.specs.Circuit.Netlist.{net_count}
 use Rattle.ht_group.specs.GroupView.{GroupView}
 use Rattle.ht_group.specs.declared.machines.Machines.{Machines}
 use Rattle.ht_group.proofs.GroupLaws.{used_word, word_inside, word_room, word_read, word_value, word_spare}

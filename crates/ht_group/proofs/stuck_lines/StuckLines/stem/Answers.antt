@@ -1,7 +1,7 @@
 use Rattle.std.proofs.Common.{◌<◌, ◌∙◌, ap, arith, length}
 use Rattle.std.proofs.lemmas.List.{get_or_read}
 use Rattle.ht_lanes.specs.Lanes.{Lanes, lane, stuck_lanes}
-use Rattle.ht_net.specs.Faults.{is_stem}
+use Rattle.ht_net.specs.Frames.Faults.{is_stem}
 use Rattle.ht_group.proofs.StuckLaws.{slot_forces, slot_is_stem}
 use Rattle.ht_group.proofs.stuck_lines.StuckLines.stem.Goals as goal
 

@@ -1,8 +1,8 @@
 use Rattle.std.proofs.Common.{◌≡◌, ◌∙◌, ◌∷◌, ◌++◌, ◌-◌, [], List, Bool, length, suc, drop, reverse, ap, sym, arith}
 use Rattle.std.proofs.lemmas.List.{length-map}
-use Rattle.ht_net.specs.Netlist.{Netlist}
-use Rattle.ht_net.specs.Rows.{Rows}
-use Rattle.ht_tree.specs.FoundLists.{vector_of}
+use Rattle.ht_net.specs.Circuit.Netlist.{Netlist}
+use Rattle.ht_net.specs.Frames.Rows.{Rows}
+use Rattle.ht_tree.specs.Walk.FoundLists.{vector_of}
 use Rattle.ht_records.proofs.SureLaws.{vector_wide}
 use Rattle.ht_window.specs.States.{WindowState}
 use Rattle.ht_justify.specs.BackStates.{BackState}

@@ -1,6 +1,6 @@
 use Rattle.std.proofs.Common.{subst}
 use Rattle.ht_tree.specs.declared.token.Assign3.{Assign3}
-use Rattle.ht_tree.specs.Walks.{decide}
+use Rattle.ht_tree.specs.Walk.Walks.{decide}
 use Rattle.ht_search.specs.Routes.{MovesOn}
 use Rattle.ht_search.specs.WindowSteps.{route_of, steps_under}
 use Rattle.ht_search.proofs.WindowStepLaws.{window_decides}

@@ -1,9 +1,9 @@
 use Rattle.std.proofs.Common.{◌≡◌, ◌∙◌, ◌++◌, ◌∷◌, ◌-◌, ◌&&◌, [], List, Bool, true, false, rules, ltb, length, refl, sym, ap, subst, arith}
 use Rattle.std.proofs.lemmas.Bool.Decides.{nat_tests}
-use Rattle.ht_net.specs.Netlist.{Netlist}
-use Rattle.ht_tree.specs.Walks.{under}
-use Rattle.ht_tree.specs.Nodes.{cube_of}
-use Rattle.ht_tree.specs.AimedAttempts.{is_wanting}
+use Rattle.ht_net.specs.Circuit.Netlist.{Netlist}
+use Rattle.ht_tree.specs.Walk.Walks.{under}
+use Rattle.ht_tree.specs.Window.Nodes.{cube_of}
+use Rattle.ht_tree.specs.Record.AimedAttempts.{is_wanting}
 use Rattle.ht_search.specs.Routes.{MovesOn}
 use Rattle.ht_search.specs.WindowSteps.{route_of, steps_under}
 use Rattle.ht_search.proofs.WindowStepLaws.{window_enters}

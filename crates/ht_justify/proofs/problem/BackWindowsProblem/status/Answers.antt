@@ -1,5 +1,5 @@
 use Rattle.std.proofs.Common.{◌∙◌, ap}
-use Rattle.ht_tree.specs.WindowStatus.{without_place}
+use Rattle.ht_tree.specs.Window.WindowStatus.{without_place}
 use Rattle.ht_justify.proofs.ProblemLaws.{status_here}
 use Rattle.ht_justify.proofs.problem.BackWindowsProblem.status.Goals as goal
 

@@ -1,9 +1,9 @@
 use Rattle.std.proofs.Common.{◌≡◌, ◌<◌, ◌+◌, ◌++◌, ◌∷◌, [], ℕ, List, Vec, Global, length, get_or, map, take, sym, ◌∙◌, ap}
 use Rattle.std.proofs.lemmas.List.{map_more, map_push}
 use Rattle.ht_net.specs.declared.names.NameId.{NameId}
-use Rattle.ht_net.specs.Named.{Name}
-use Rattle.ht_net.specs.DraftOf.{named_at}
-use Rattle.ht_net.specs.Finish.{no_name}
+use Rattle.ht_net.specs.Build.Named.{Name}
+use Rattle.ht_net.specs.Build.DraftOf.{named_at}
+use Rattle.ht_net.specs.Build.Finish.{no_name}
 use Rattle.ht_net.proofs.builder.nets.names_of.Goals as goal
 
 abbrev bytes : Vec ℕ Global → Name

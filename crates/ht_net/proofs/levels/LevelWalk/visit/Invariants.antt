@@ -1,4 +1,4 @@
-use Rattle.ht_net.specs.LevelWalk.{IsLaterWalk, IsVisited, left_count}
+use Rattle.ht_net.specs.Circuit.LevelWalk.{IsLaterWalk, IsVisited, left_count}
 use Rattle.ht_net.proofs.levels.LevelWalk.visit.Given as goal
 
 abbrev pub invariant-loop-gate : goal.invariant-loop-gate

@@ -2,7 +2,7 @@ use Rattle.std.proofs.Common.{◌≡◌, ◌∙◌, ◌++◌, List, Option, true
 use Rattle.std.specs.Vec.{with_items}
 use Rattle.std.proofs.lemmas.List.{with_items_is}
 use Rattle.ht_net.specs.declared.place.Place.{Place}
-use Rattle.ht_net.specs.Netlist.{Netlist}
+use Rattle.ht_net.specs.Circuit.Netlist.{Netlist}
 use Rattle.ht_proofs.specs.PackedView.{GraderStandsFor}
 use Rattle.ht_proofs.specs.Detections.{AreFirstDetections, ArePlaces, AreWithin}
 use Rattle.ht_proofs.specs.ClassGraderView.{ClassGraderView}

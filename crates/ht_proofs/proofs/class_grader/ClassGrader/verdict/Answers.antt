@@ -1,7 +1,7 @@
 use Rattle.std.proofs.Common.{◌≡◌, ◌∙◌, None, length, sym, ap, subst, arith}
 use Rattle.std.specs.Option.{ForSome}
 use Rattle.std.proofs.lemmas.List.{get_or_read}
-use Rattle.ht_net.specs.Detection.{IsPlace}
+use Rattle.ht_net.specs.Detect.Detection.{IsPlace}
 use Rattle.ht_faults.specs.Sites.{faults_of}
 use Rattle.ht_proofs.specs.Detections.{place_at}
 use Rattle.ht_proofs.specs.ClassGraderView.{ClassGraderView}

@@ -1,9 +1,9 @@
 use Rattle.std.proofs.Common.{◌≡◌, ◌<◌, ◌+◌, [], ◌∙◌, List, ℕ, length, get_or, ap, arith}
 use Rattle.std.proofs.lemmas.List.{with_items_is}
 use Rattle.ht_pairs.specs.Pairs.{Pair}
-use Rattle.ht_net.specs.Netlist.{Netlist}
+use Rattle.ht_net.specs.Circuit.Netlist.{Netlist}
 use Rattle.ht_tree.proofs.MemberLaws.{listed_by}
-use Rattle.ht_recompute.specs.FreshStarts.{first_latch_by, fresh_start, latches_by}
+use Rattle.ht_recompute.specs.WindowStarts.{first_latch_by, window_start, latches_by}
 use Rattle.ht_recompute.proofs.frame_sets.FrameSets.begin.Goals as goal
 
 pub returns : goal.returns
@@ -19,12 +19,12 @@ returns c =
     let inputs : c.inputs-inputs.result ≡ n.inputs =
     c.inputs-inputs.ensures ∙ ap (λ (n : Netlist). n.inputs) c.circuit.ensures.circuit in
     let each : (j : ℕ) → j < length n.dffs → get_or L j []
-    ≡ first_latch_by (fresh_start start) ds n.inputs (length n.dffs) (0 + j) =
+    ≡ first_latch_by (window_start start) ds n.inputs (length n.dffs) (0 + j) =
     λ j below. let at : j ≡ 0 + j = omega arith in
     c.write_latches.ensures j (omega (arith, count, below))
-    ∙ (λ i. first_latch_by (fresh_start start) ds (inputs i) (count i) (at i)) in
+    ∙ (λ i. first_latch_by (window_start start) ds (inputs i) (count i) (at i)) in
     let whole : L ≡ latches_by start ds n =
-    listed_by (first_latch_by (fresh_start start) ds n.inputs (length n.dffs)) 0 (length n.dffs) L []
+    listed_by (first_latch_by (window_start start) ds n.inputs (length n.dffs)) 0 (length n.dffs) L []
     (let e = count in omega (arith, e)) each in
     let items = with_items_is a.ends.latches L (omega arith) ∙ whole in
     (λ i. record {

@@ -3,8 +3,8 @@ use Rattle.std.proofs.lemmas.List.{with_items_is}
 use Rattle.ht_tern.specs.declared.tern.Tern.{Tern}
 use Rattle.ht_pairs.specs.Pairs.{Pair}
 use Rattle.ht_pairs.specs.Decided.{same_pairs}
-use Rattle.ht_net.specs.Frame.{frame_outputs, next_state}
-use Rattle.ht_tree.specs.Windows.{pair_set_rules}
+use Rattle.ht_net.specs.Frames.Frame.{frame_outputs, next_state}
+use Rattle.ht_tree.specs.Window.Windows.{pair_set_rules}
 use Rattle.ht_tree.proofs.MemberLaws.{listed_by}
 use Rattle.ht_recompute.specs.FrameSetsOf.{FrameState, frame_after, inputs_by}
 use Rattle.ht_recompute.specs.KeptFramesOf.{KeptState}

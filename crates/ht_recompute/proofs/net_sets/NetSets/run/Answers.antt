@@ -1,7 +1,7 @@
 use Rattle.std.proofs.Common.{◌∙◌, List, ap}
 use Rattle.ht_pairs.specs.Pairs.{Pair}
-use Rattle.ht_net.specs.Frame.{data_values, values_at}
-use Rattle.ht_tree.specs.Windows.{pair_set_rules}
+use Rattle.ht_net.specs.Frames.Frame.{data_values, values_at}
+use Rattle.ht_tree.specs.Window.Windows.{pair_set_rules}
 use Rattle.ht_recompute.specs.GateSets.{sets_of}
 use Rattle.ht_recompute.proofs.FrameSetLaws.{frame_shown, frame_taken}
 use Rattle.ht_recompute.proofs.net_sets.NetSets.run.Goals as goal

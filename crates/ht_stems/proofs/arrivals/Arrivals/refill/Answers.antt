@@ -1,7 +1,7 @@
 use Rattle.std.proofs.Common.{◌≡◌, List, length, ap, arith}
 use Rattle.std.proofs.lemmas.List.{with_items_is}
 use Rattle.ht_tern.specs.declared.tern.Tern.{Tern}
-use Rattle.ht_net.specs.Netlist.{net_count}
+use Rattle.ht_net.specs.Circuit.Netlist.{net_count}
 use Rattle.ht_stems.specs.declared.net_ends.NetEnds.{NetEnds}
 use Rattle.ht_stems.specs.ArrivalsView.{ArrivalsView}
 use Rattle.ht_stems.proofs.ViewLaws.{filled}

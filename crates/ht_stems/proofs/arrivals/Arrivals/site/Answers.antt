@@ -1,8 +1,8 @@
 use Rattle.std.proofs.Common.{◌≡◌, ◌∙◌, ℕ, List, Some, get_or, ap}
 use Rattle.ht_tern.specs.declared.tern.Tern.{Tern}
 use Rattle.ht_tern.specs.declared.tern.Tern.TheVariants.{Unk}
-use Rattle.ht_net.specs.Frame.{gate_output}
-use Rattle.ht_net.specs.Faults.{tern_rules}
+use Rattle.ht_net.specs.Frames.Frame.{gate_output}
+use Rattle.ht_net.specs.Frames.Faults.{tern_rules}
 use Rattle.ht_frame.specs.Values.{env_of}
 use Rattle.ht_stems.specs.declared.net_ends.NetEnds.{NetEnds}
 use Rattle.ht_stems.specs.NetEnds.{end_at, no_ends}

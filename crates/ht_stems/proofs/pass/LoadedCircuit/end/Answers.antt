@@ -1,6 +1,6 @@
 use Rattle.std.proofs.Common.{◌≡◌, ◌+◌, ◌∙◌, ℕ, ap, sym, subst, get_or}
 use Rattle.ht_tern.specs.declared.tern.Tern.TheVariants.{Unk}
-use Rattle.ht_net.specs.Netlist.{first_gate_net}
+use Rattle.ht_net.specs.Circuit.Netlist.{first_gate_net}
 use Rattle.ht_frame.specs.Values.{env_of}
 use Rattle.ht_stems.specs.declared.arrival.Arrival.{Arrival}
 use Rattle.ht_stems.specs.Arrivals.{Arrives, unchanged, unread, at_latch, at_output, at_stem}

@@ -1,7 +1,7 @@
 use Rattle.std.proofs.Common.{◌∙◌, ℕ, ap, subst}
-use Rattle.ht_net.specs.Netlist.{Netlist}
-use Rattle.ht_tree.specs.Searches.{node_at}
-use Rattle.ht_tree.specs.Windows.{SearchWindow}
+use Rattle.ht_net.specs.Circuit.Netlist.{Netlist}
+use Rattle.ht_tree.specs.Walk.Searches.{node_at}
+use Rattle.ht_tree.specs.Window.Windows.{SearchWindow}
 use Rattle.ht_search.specs.Outcomes.{IsOutcome}
 use Rattle.ht_forward.specs.Goals.{guide_to}
 use Rattle.ht_forward.specs.LengthAnswers.{IsOneLength}

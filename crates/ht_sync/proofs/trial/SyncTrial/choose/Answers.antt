@@ -1,9 +1,9 @@
 use Rattle.std.proofs.Common.{◌≡◌, ◌<◌, ◌-◌, ◌∙◌, ℕ, length, get_or, ap, sym, subst, arith}
 use Rattle.ht_net.specs.declared.net.NetId.{NetId}
-use Rattle.ht_net.specs.Netlist.{Netlist, no_net}
+use Rattle.ht_net.specs.Circuit.Netlist.{Netlist, no_net}
 use Rattle.ht_tree.specs.declared.window.Spot.TheVariants.{State}
-use Rattle.ht_tree.specs.Places.{spot_net}
-use Rattle.ht_tree.specs.Windows.{cell_at}
+use Rattle.ht_tree.specs.Window.Places.{spot_net}
+use Rattle.ht_tree.specs.Window.Windows.{cell_at}
 use Rattle.ht_window.proofs.RestrictLaws.{whole_matters}
 use Rattle.ht_sync.proofs.LastLaws.{found_latch, last_undetermined, open_finds}
 use Rattle.ht_sync.proofs.trial.SyncTrial.choose.Goals as goal

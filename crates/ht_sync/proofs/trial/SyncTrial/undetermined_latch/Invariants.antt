@@ -1,6 +1,6 @@
 use Rattle.std.proofs.Common.{◌≡◌, length}
 use Rattle.std.specs.List.{find}
-use Rattle.ht_tree.specs.Windows.{is_undetermined}
+use Rattle.ht_tree.specs.Window.Windows.{is_undetermined}
 use Rattle.ht_sync.specs.SyncWindows.{flip_flops, last_set}
 use Rattle.ht_sync.proofs.SeeLaws.{from}
 use Rattle.ht_sync.proofs.trial.SyncTrial.undetermined_latch.Given as goal

@@ -1,6 +1,6 @@
 use Rattle.std.proofs.Common.{sym, subst}
-use Rattle.ht_net.specs.Netlist.{Netlist}
-use Rattle.ht_tree.specs.Windows.{IsStart}
+use Rattle.ht_net.specs.Circuit.Netlist.{Netlist}
+use Rattle.ht_tree.specs.Window.Windows.{IsStart}
 use Rattle.ht_tree.proofs.BeginLaws.{some_frame}
 use Rattle.ht_window.specs.Starts.{start_of}
 use Rattle.ht_window.proofs.bases.Bases.base.Goals as goal

@@ -1,6 +1,6 @@
 use Rattle.std.proofs.Common.{◌∙◌, IfOk, refl, sym, subst}
-use Rattle.ht_net.specs.Netlist.{Netlist}
-use Rattle.ht_tree.specs.Windows.{SearchWindow, IsStart}
+use Rattle.ht_net.specs.Circuit.Netlist.{Netlist}
+use Rattle.ht_tree.specs.Window.Windows.{SearchWindow, IsStart}
 use Rattle.ht_window.specs.BaseStates.{IsBaseFor, IsNew}
 use Rattle.ht_window.proofs.bases.Bases.window_following.Goals as goal
 

@@ -1,5 +1,5 @@
 use Rattle.std.proofs.Common.{IfOk, sym, subst}
-use Rattle.ht_net.specs.Netlist.{Netlist}
+use Rattle.ht_net.specs.Circuit.Netlist.{Netlist}
 use Rattle.ht_window.specs.Setups.{IsSetup, window_for}
 use Rattle.ht_window.specs.BaseStates.{IsBaseFor, IsNew}
 use Rattle.ht_window.proofs.bases.Bases.window_of_good.Goals as goal

@@ -1,6 +1,6 @@
 use Rattle.std.proofs.Common.{◌∙◌, None, ap, sym, arith}
 use Rattle.std.proofs.Math.ListN.{get_or-eq_default}
-use Rattle.ht_tree.specs.Decisions.{decided_value}
+use Rattle.ht_tree.specs.Window.Decisions.{decided_value}
 use Rattle.ht_window.specs.Standing.{Standing}
 use Rattle.ht_window.proofs.ValueLaws.{value_now}
 use Rattle.ht_window.proofs.decisions.Decisions.value.Goals as goal

@@ -1,9 +1,9 @@
 use Rattle.std.proofs.Common.{◌≡◌, ◌∙◌, ◌+◌, ◌-◌, ℕ, List, ap, get_or, arith, length, subst, take, drop}
-use Rattle.ht_net.specs.Netlist.{Netlist, first_gate_net, net_count}
+use Rattle.ht_net.specs.Circuit.Netlist.{Netlist, first_gate_net, net_count}
 use Rattle.ht_pairs.specs.Decided.{same_pairs}
-use Rattle.ht_tree.specs.Decisions.{decided_value}
-use Rattle.ht_tree.specs.Windows.{first_input, IsWindow, pair_set_rules}
-use Rattle.ht_net.specs.Frame.{gate_output}
+use Rattle.ht_tree.specs.Window.Decisions.{decided_value}
+use Rattle.ht_tree.specs.Window.Windows.{first_input, IsWindow, pair_set_rules}
+use Rattle.ht_net.specs.Frames.Frame.{gate_output}
 use Rattle.ht_frame.specs.Values.{env_of}
 use Rattle.ht_pairs.specs.Pairs.{Pair}
 use Rattle.ht_window.specs.Holding.{HeldState}

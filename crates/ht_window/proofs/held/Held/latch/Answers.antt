@@ -1,5 +1,5 @@
 use Rattle.std.proofs.Common.{◌≡◌, ◌<◌, ◌∙◌, ◌-◌, suc, ap, get_or, arith, length, subst}
-use Rattle.ht_net.specs.Netlist.{Netlist, no_net}
+use Rattle.ht_net.specs.Circuit.Netlist.{Netlist, no_net}
 use Rattle.ht_window.specs.Holding.{HeldState}
 use Rattle.ht_window.specs.Cells.{latches_over, blank}
 use Rattle.ht_window.proofs.DriverLaws.{latch_first, latch_next}

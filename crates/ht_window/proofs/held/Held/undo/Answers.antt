@@ -1,7 +1,7 @@
 use Rattle.std.proofs.Common.{◌≤◌, ◌∙◌, ap, sym, drop, length, subst}
 use Rattle.ht_trail.proofs.TrailLaws.{restored_length}
 use Rattle.ht_events.specs.Plans.{max_frames}
-use Rattle.ht_tree.specs.Windows.{SearchWindow, IsWindow}
+use Rattle.ht_tree.specs.Window.Windows.{SearchWindow, IsWindow}
 use Rattle.ht_window.specs.Cells.{cell_count}
 use Rattle.ht_window.proofs.held.Held.undo.Goals as goal
 

@@ -3,7 +3,7 @@ use Rattle.std.specs.Bool.{Decides}
 use Rattle.std.proofs.lemmas.Slice.Eq.{slice_eq-Decides}
 use Rattle.ht_tern.specs.declared.tern.Tern.{Tern}
 use Rattle.ht_tern.specs.declared.tern.Tern.TheVariants.{Zero, One, Unk}
-use Rattle.ht_tree.specs.Windows.{state_pair}
+use Rattle.ht_tree.specs.Window.Windows.{state_pair}
 use Rattle.ht_window.specs.Starts.{start_of}
 use Rattle.ht_window.proofs.start.Start.is_same.Goals as goal
 

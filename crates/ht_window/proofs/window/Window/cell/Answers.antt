@@ -1,6 +1,6 @@
 use Rattle.std.proofs.Common.{◌∙◌, ap, arith}
-use Rattle.ht_net.specs.Netlist.{net_count}
-use Rattle.ht_tree.specs.Windows.{cell_at}
+use Rattle.ht_net.specs.Circuit.Netlist.{net_count}
+use Rattle.ht_tree.specs.Window.Windows.{cell_at}
 use Rattle.ht_window.specs.Matters.{is_relevant}
 use Rattle.ht_window.specs.States.{WindowState}
 use Rattle.ht_window.proofs.HistoryLaws.{cells_now}

@@ -1,8 +1,8 @@
 use Rattle.std.proofs.Common.{◌≡◌, ◌∙◌, List, ap, sym, inl, inr}
 use Rattle.ht_tern.specs.declared.tern.Tern.{Tern}
 use Rattle.ht_tree.specs.declared.window.Status.TheVariants.{Open}
-use Rattle.ht_tree.specs.Windows.{back}
-use Rattle.ht_tree.specs.WindowStatus.{difference_status, status_from, cube_status, cube_latches}
+use Rattle.ht_tree.specs.Window.Windows.{back}
+use Rattle.ht_tree.specs.Window.WindowStatus.{difference_status, status_from, cube_status, cube_latches}
 use Rattle.ht_tree.proofs.BeginLaws.{found_place_walks, found_latch_walks}
 use Rattle.ht_window.specs.Starts.{start_of}
 use Rattle.ht_window.specs.Seen.{cube_seen_of}

@@ -1,8 +1,8 @@
 use Rattle.std.proofs.Common.{◌∙◌, Option, ap, sym}
 use Rattle.std.specs.Prelude.{is_some}
 use Rattle.ht_tree.specs.declared.window.WindowPlace.{WindowPlace}
-use Rattle.ht_tree.specs.Places.{may_differ_at, places_of}
-use Rattle.ht_tree.specs.WindowStatus.{sure_or}
+use Rattle.ht_tree.specs.Window.Places.{may_differ_at, places_of}
+use Rattle.ht_tree.specs.Window.WindowStatus.{sure_or}
 use Rattle.ht_window.proofs.SeenLaws.{any_found}
 use Rattle.ht_window.proofs.window.Window.difference_status.Goals as goal
 

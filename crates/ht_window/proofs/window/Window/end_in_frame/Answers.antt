@@ -1,9 +1,9 @@
 use Rattle.std.proofs.Common.{◌≡◌, ◌<◌, ◌≤◌, ◌+◌, ◌-◌, ◌∙◌, ℕ, List, length, ap, sym, arith, subst}
 use Rattle.ht_tern.specs.declared.gate.Kind.{Kind}
 use Rattle.ht_pairs.specs.Pairs.{Pair}
-use Rattle.ht_net.specs.Netlist.{IsCircuit, first_gate_net, gate_at}
-use Rattle.ht_tree.specs.Windows.{cell_at, pair_set_rules}
-use Rattle.ht_tree.specs.WalkBack.{undetermined_argument, bit_before}
+use Rattle.ht_net.specs.Circuit.Netlist.{IsCircuit, first_gate_net, gate_at}
+use Rattle.ht_tree.specs.Window.Windows.{cell_at, pair_set_rules}
+use Rattle.ht_tree.specs.Window.WalkBack.{undetermined_argument, bit_before}
 use Rattle.ht_relevant.proofs.WalkPartLaws.{argument_matters}
 use Rattle.ht_window.specs.Matters.{is_relevant}
 use Rattle.ht_window.proofs.WalkLaws.{back_step, back_none, back_low, undetermined_argument_known}

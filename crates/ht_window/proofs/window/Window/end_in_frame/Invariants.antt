@@ -1,7 +1,7 @@
 use Rattle.std.proofs.Common.{◌≡◌, ◌<◌, true, length}
-use Rattle.ht_net.specs.Netlist.{net_count}
-use Rattle.ht_tree.specs.Windows.{cell_at, pair_set_rules}
-use Rattle.ht_tree.specs.WalkBack.{back_over, end_in_frame}
+use Rattle.ht_net.specs.Circuit.Netlist.{net_count}
+use Rattle.ht_tree.specs.Window.Windows.{cell_at, pair_set_rules}
+use Rattle.ht_tree.specs.Window.WalkBack.{back_over, end_in_frame}
 use Rattle.ht_window.specs.Matters.{is_relevant}
 use Rattle.ht_window.specs.WantedOf.{wanted_of}
 use Rattle.ht_window.proofs.window.Window.end_in_frame.Given as goal

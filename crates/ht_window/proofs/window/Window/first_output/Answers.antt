@@ -1,6 +1,6 @@
 use Rattle.std.proofs.Common.{◌≡◌, ◌-◌, ◌∙◌, ℕ, true, false, map, length, ap, sym, arith}
 use Rattle.std.specs.List.{find, range_with_len}
-use Rattle.ht_net.specs.Netlist.{Netlist}
+use Rattle.ht_net.specs.Circuit.Netlist.{Netlist}
 use Rattle.ht_tree.specs.declared.window.Spot.TheVariants.{Output}
 use Rattle.ht_window.specs.Seen.{shows_at}
 use Rattle.ht_window.proofs.SeenLaws.{output_step}

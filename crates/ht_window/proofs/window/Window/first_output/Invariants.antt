@@ -1,7 +1,7 @@
 use Rattle.std.proofs.Common.{◌≡◌, ◌-◌, map, length}
 use Rattle.std.specs.List.{find, range_with_len}
 use Rattle.ht_tree.specs.declared.window.Spot.TheVariants.{Output}
-use Rattle.ht_tree.specs.Places.{output_places}
+use Rattle.ht_tree.specs.Window.Places.{output_places}
 use Rattle.ht_window.specs.Seen.{shows_at}
 use Rattle.ht_window.proofs.window.Window.first_output.Given as goal
 

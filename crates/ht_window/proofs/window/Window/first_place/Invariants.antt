@@ -1,7 +1,7 @@
 use Rattle.std.proofs.Common.{◌≡◌, ◌-◌, ◌++◌}
 use Rattle.std.specs.Prelude.{flat_map}
 use Rattle.std.specs.List.{find, range_with_len}
-use Rattle.ht_tree.specs.Places.{output_places, places_of, state_places}
+use Rattle.ht_tree.specs.Window.Places.{output_places, places_of, state_places}
 use Rattle.ht_window.specs.Seen.{shows_at}
 use Rattle.ht_window.proofs.window.Window.first_place.Given as goal
 

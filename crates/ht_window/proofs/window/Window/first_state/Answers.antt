@@ -1,8 +1,8 @@
 use Rattle.std.proofs.Common.{◌≡◌, ◌-◌, ◌∙◌, ◌&&◌, ℕ, true, false, map, not, length, ap, sym, arith}
 use Rattle.std.specs.List.{filter, find, range_with_len}
 use Rattle.ht_tree.specs.declared.window.Spot.TheVariants.{State}
-use Rattle.ht_tree.specs.Decisions.{is_in}
-use Rattle.ht_tree.specs.Places.{set_at}
+use Rattle.ht_tree.specs.Window.Decisions.{is_in}
+use Rattle.ht_tree.specs.Window.Places.{set_at}
 use Rattle.ht_window.specs.Starts.{marked}
 use Rattle.ht_window.specs.Seen.{shows, shows_at}
 use Rattle.ht_window.proofs.RestrictLaws.{outside_counts}

@@ -1,9 +1,9 @@
 use Rattle.std.proofs.Common.{◌≡◌, ◌-◌, map, not, length}
 use Rattle.std.specs.List.{filter, find, range_with_len}
 use Rattle.ht_tree.specs.declared.window.Spot.TheVariants.{State}
-use Rattle.ht_tree.specs.Decisions.{is_in}
-use Rattle.ht_tree.specs.Places.{state_places}
-use Rattle.ht_tree.specs.Windows.{one_frame}
+use Rattle.ht_tree.specs.Window.Decisions.{is_in}
+use Rattle.ht_tree.specs.Window.Places.{state_places}
+use Rattle.ht_tree.specs.Window.Windows.{one_frame}
 use Rattle.ht_window.specs.Starts.{marked}
 use Rattle.ht_window.specs.Seen.{shows_at}
 use Rattle.ht_window.proofs.window.Window.first_state.Given as goal

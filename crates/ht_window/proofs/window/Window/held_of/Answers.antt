@@ -1,7 +1,7 @@
 use Rattle.std.proofs.Common.{◌≡◌, ◌∙◌, List, [], None, Option, true, ap, sym, arith, subst}
 use Rattle.ht_pairs.specs.Pairs.{Pair}
 use Rattle.ht_tree.specs.declared.token.Assign3.{Assign3}
-use Rattle.ht_tree.specs.Windows.{IsStart, IsWindow}
+use Rattle.ht_tree.specs.Window.Windows.{IsStart, IsWindow}
 use Rattle.ht_relevant.specs.Near.{RelevantState}
 use Rattle.ht_window.specs.Standing.{Standing}
 use Rattle.ht_window.specs.Starts.{start_of}

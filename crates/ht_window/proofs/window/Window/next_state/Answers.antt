@@ -1,6 +1,6 @@
 use Rattle.std.proofs.Common.{◌≡◌, ◌-◌, ◌∙◌, ap, arith, get_or}
-use Rattle.ht_net.specs.Netlist.{Netlist, no_net}
-use Rattle.ht_tree.specs.Windows.{SearchWindow}
+use Rattle.ht_net.specs.Circuit.Netlist.{Netlist, no_net}
+use Rattle.ht_tree.specs.Window.Windows.{SearchWindow}
 use Rattle.ht_window.specs.Standing.{Standing}
 use Rattle.ht_window.specs.States.{WindowState}
 use Rattle.ht_window.proofs.LegalLaws.{some_frames}

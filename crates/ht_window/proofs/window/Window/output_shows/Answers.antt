@@ -1,5 +1,5 @@
 use Rattle.std.proofs.Common.{◌∙◌, ℕ, ap, sym}
-use Rattle.ht_tree.specs.Windows.{cell_at}
+use Rattle.ht_tree.specs.Window.Windows.{cell_at}
 use Rattle.ht_window.specs.Matters.{is_relevant}
 use Rattle.ht_window.specs.Seen.{shows}
 use Rattle.ht_window.proofs.SeenLaws.{output_net, output_quiet}

@@ -1,6 +1,6 @@
 use Rattle.std.proofs.Common.{sym, subst}
 use Rattle.ht_tree.specs.declared.token.Choice.{Choice}
-use Rattle.ht_tree.specs.Variables.{IsLegalChoice}
+use Rattle.ht_tree.specs.Window.Variables.{IsLegalChoice}
 use Rattle.ht_tree.proofs.PickLaws.{open_has_choice}
 use Rattle.ht_window.proofs.window.Window.pick.Goals as goal
 

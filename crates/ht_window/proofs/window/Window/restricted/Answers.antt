@@ -1,7 +1,7 @@
 use Rattle.std.proofs.Common.{◌∙◌, IfOk, List, ap, sym, subst}
 use Rattle.ht_pairs.specs.Pairs.{Pair}
 use Rattle.ht_trail.specs.Trails.{CellsState}
-use Rattle.ht_tree.specs.Windows.{SearchWindow}
+use Rattle.ht_tree.specs.Window.Windows.{SearchWindow}
 use Rattle.ht_window.specs.Standing.{Standing}
 use Rattle.ht_window.specs.BaseStates.{IsNew}
 use Rattle.ht_window.specs.Renewals.{HoldsElsewhere}

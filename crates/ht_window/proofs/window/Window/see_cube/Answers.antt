@@ -1,6 +1,6 @@
 use Rattle.std.proofs.Common.{◌≡◌, ◌<◌, ◌∙◌, ℕ, length, ap, sym, arith}
 use Rattle.std.specs.List.{filter, range_with_len}
-use Rattle.ht_tree.specs.WindowStatus.{is_definite, value_at}
+use Rattle.ht_tree.specs.Window.WindowStatus.{is_definite, value_at}
 use Rattle.ht_window.specs.Seen.{cube_seen_of}
 use Rattle.ht_window.proofs.SeenLaws.{next_set}
 use Rattle.ht_window.proofs.CubeLaws.{latch_kept, latch_passed}

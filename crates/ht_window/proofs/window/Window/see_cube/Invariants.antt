@@ -1,6 +1,6 @@
 use Rattle.std.proofs.Common.{◌≡◌}
 use Rattle.std.specs.List.{filter, range_with_len}
-use Rattle.ht_tree.specs.WindowStatus.{is_definite, value_at}
+use Rattle.ht_tree.specs.Window.WindowStatus.{is_definite, value_at}
 use Rattle.ht_window.specs.Seen.{cube_seen_of}
 use Rattle.ht_window.proofs.window.Window.see_cube.Given as goal
 

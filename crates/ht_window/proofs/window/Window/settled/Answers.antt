@@ -1,5 +1,5 @@
 use Rattle.std.proofs.Common.{◌∙◌, ap, subst}
-use Rattle.ht_tree.specs.Windows.{SearchWindow}
+use Rattle.ht_tree.specs.Window.Windows.{SearchWindow}
 use Rattle.ht_window.specs.Standing.{Standing}
 use Rattle.ht_window.specs.BaseStates.{IsNew}
 use Rattle.ht_window.proofs.window.Window.settled.Goals as goal

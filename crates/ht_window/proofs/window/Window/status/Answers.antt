@@ -1,5 +1,5 @@
 use Rattle.std.proofs.Common.{◌∙◌, ap, sym, inl, inr}
-use Rattle.ht_tree.specs.WindowStatus.{status_from}
+use Rattle.ht_tree.specs.Window.WindowStatus.{status_from}
 use Rattle.ht_window.specs.Starts.{start_of}
 use Rattle.ht_window.proofs.window.Window.status.Goals as goal
 

@@ -1,4 +1,4 @@
-use Rattle.ht_tree.specs.Windows.{cell_at}
+use Rattle.ht_tree.specs.Window.Windows.{cell_at}
 use Rattle.ht_window.proofs.ArgumentLaws.{undetermined_single, determined_single, pin_step}
 use Rattle.ht_window.proofs.window.Window.undetermined_argument.Goals as goal
 

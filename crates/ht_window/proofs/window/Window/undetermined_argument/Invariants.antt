@@ -1,7 +1,7 @@
 use Rattle.std.proofs.Common.{◌≡◌, drop}
-use Rattle.ht_net.specs.Netlist.{gate_at}
-use Rattle.ht_tree.specs.Windows.{cell_at, pair_set_rules}
-use Rattle.ht_tree.specs.WalkBack.{undetermined_argument}
+use Rattle.ht_net.specs.Circuit.Netlist.{gate_at}
+use Rattle.ht_tree.specs.Window.Windows.{cell_at, pair_set_rules}
+use Rattle.ht_tree.specs.Window.WalkBack.{undetermined_argument}
 use Rattle.ht_window.proofs.window.Window.undetermined_argument.Given as goal
 
 abbrev pub invariant-loop-i : goal.invariant-loop-i

@@ -1,13 +1,13 @@
 use Rattle.std.proofs.Common.{◌≡◌, ◌<◌, ◌≤◌, ◌+◌, ◌-◌, ◌∙◌, ℕ, Bool, length, get_or, ap, sym, subst, arith}
 use Rattle.ht_net.specs.declared.net.NetId.{NetId}
-use Rattle.ht_net.specs.Netlist.{Netlist, IsCircuit, net_count, no_net}
+use Rattle.ht_net.specs.Circuit.Netlist.{Netlist, IsCircuit, net_count, no_net}
 use Rattle.ht_tree.specs.declared.window.Spot.TheVariants.{State}
 use Rattle.ht_tree.specs.declared.token.Choice.{Choice}
 use Rattle.ht_tree.specs.declared.token.Choice.TheVariants.{Two}
-use Rattle.ht_tree.specs.Windows.{IsWindow, cell_at, first_input}
-use Rattle.ht_tree.specs.Places.{spot_net}
-use Rattle.ht_tree.specs.WalkBack.{Wanted, choice_at, end_in_frame, walk_back}
-use Rattle.ht_tree.specs.Variables.{IsLegalChoice}
+use Rattle.ht_tree.specs.Window.Windows.{IsWindow, cell_at, first_input}
+use Rattle.ht_tree.specs.Window.Places.{spot_net}
+use Rattle.ht_tree.specs.Window.WalkBack.{Wanted, choice_at, end_in_frame, walk_back}
+use Rattle.ht_tree.specs.Window.Variables.{IsLegalChoice}
 use Rattle.ht_tree.proofs.PickLaws.{net_has_choice}
 use Rattle.ht_window.specs.Matters.{is_relevant}
 use Rattle.ht_window.specs.States.{WindowState}

@@ -1,7 +1,7 @@
 use Rattle.std.proofs.Common.{◌≡◌, ◌<◌, true, length}
-use Rattle.ht_net.specs.Netlist.{first_gate_net}
-use Rattle.ht_tree.specs.Windows.{cell_at}
-use Rattle.ht_tree.specs.WalkBack.{choice_at, walk_back}
+use Rattle.ht_net.specs.Circuit.Netlist.{first_gate_net}
+use Rattle.ht_tree.specs.Window.Windows.{cell_at}
+use Rattle.ht_tree.specs.Window.WalkBack.{choice_at, walk_back}
 use Rattle.ht_window.specs.Matters.{is_relevant}
 use Rattle.ht_window.specs.WantedOf.{wanted_of}
 use Rattle.ht_window.proofs.window.Window.walk_back.Given as goal

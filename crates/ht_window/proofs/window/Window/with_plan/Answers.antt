@@ -2,9 +2,9 @@ use Rattle.std.proofs.Common.{◌∙◌, List, None, Option, ap, sym, subst}
 use Rattle.ht_pairs.specs.Pairs.{Pair}
 use Rattle.ht_relevant.specs.Near.{RelevantState}
 use Rattle.ht_relevant.specs.Relevant.{IsRelevant}
-use Rattle.ht_net.specs.Netlist.{Netlist}
+use Rattle.ht_net.specs.Circuit.Netlist.{Netlist}
 use Rattle.ht_events.specs.FramePlans.{FramePlanState}
-use Rattle.ht_tree.specs.Windows.{SearchWindow}
+use Rattle.ht_tree.specs.Window.Windows.{SearchWindow}
 use Rattle.ht_window.specs.Setups.{window_for}
 use Rattle.ht_window.specs.Standing.{Standing}
 use Rattle.ht_window.specs.BaseStates.{IsNew}
