@@ -7,7 +7,7 @@ use crate::domain::Domain;
 use ht_net::{Fault, NetId, Site};
 
 /// What the stem of a net makes of a value: the stuck value where the fault is there, else the value itself.
-#[tactic(auto, unfolding(ht_net::specs::Faults::forced))]
+#[tactic(auto, unfolding(ht_net::specs::Frames::Faults::forced))]
 pub fn stem<V: Domain>(fault: Option<Fault>, net: u32, value: V) -> V
     ensures { result ≡ (rules_of V.blank V.gate V.stick fault).stem net value }
 {
@@ -18,7 +18,7 @@ pub fn stem<V: Domain>(fault: Option<Fault>, net: u32, value: V) -> V
 }
 
 /// What a pin of a gate makes of a value. Gates and their pins count from 0.
-#[tactic(auto, unfolding(ht_net::specs::Faults::forced))]
+#[tactic(auto, unfolding(ht_net::specs::Frames::Faults::forced))]
 pub fn gate_pin<V: Domain>(fault: Option<Fault>, gate: u32, pin: u8, value: V) -> V
     ensures { result ≡ (rules_of V.blank V.gate V.stick fault).pin gate pin value }
 {
@@ -39,7 +39,7 @@ pub(crate) fn is_at_gate(fault: Option<Fault>, gate: u32) -> bool
 }
 
 /// What the data pin of a flip-flop makes of a value. Flip-flops count from 0.
-#[tactic(auto, unfolding(ht_net::specs::Faults::forced))]
+#[tactic(auto, unfolding(ht_net::specs::Frames::Faults::forced))]
 pub fn data_pin<V: Domain>(fault: Option<Fault>, dff: u32, value: V) -> V
     ensures { result ≡ (rules_of V.blank V.gate V.stick fault).data_pin dff value }
 {

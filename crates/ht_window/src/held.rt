@@ -213,7 +213,7 @@ impl<'c> Held<'c> {
     }
 
     /// What a net of a frame gets from the decisions and from what its driver reads.
-    #[tactic(auto, unfolding(ht_net::specs::Frame::net_value_over))]
+    #[tactic(auto, unfolding(ht_net::specs::Frames::Frame::net_value_over))]
     #[inline(always)]
     fn evaluate(&mut self, frame: u32, net: u32) -> PairSet
         requires frame { frame < self.old.standing.window.frames }
