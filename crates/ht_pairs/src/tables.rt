@@ -1,8 +1,10 @@
-//! What an operation takes of each of its two arguments, looked up.
+//! What a gate takes of its arguments and makes of the folded set, looked up.
 //!
 //! The results of an operation are the union of four meets, each of a part of the first set and a part of the second: a
 //! part has the pairs to which a move leads. So a step of a gate is two look-ups, and the same code whatever its kind: a
-//! jump by the kind would be guessed wrong every second time.
+//! jump by the kind would be guessed wrong every second time. The four parts stand in one word, 16 bits each, so that one
+//! AND makes all four meets: `gen` takes some 5 percent less time than with each part by itself. What a kind makes of the
+//! folded set is looked up for the same reason.
 //!
 //! A set is three digits of eight, one for each good half, X, 1 and 0; the digit has the faulty halves, 4 for X, 2 for 1
 //! and 1 for 0. A move of the faulty half changes each digit by itself, and a move of the good half joins digits.
@@ -123,42 +125,72 @@ macro_rules! complemented_good {
     };
 }
 
-// The parts of either argument of AND and of OR. Each half of a result is that half of one of the two members, and the
-// other member's may be moved to it. Parts 0 and 1 of the one argument meet parts 1 and 0 of the other, and so 2 and 3.
-macro_rules! by_one_move {
-    ($moved:ident $moved_good:ident $x:tt $one:tt $zero:tt) => {
-        [
-            set!($x, $one, $zero),
-            $moved_good!($moved!($x), $moved!($one), $moved!($zero)),
-            set!($moved!($x), $moved!($one), $moved!($zero)),
-            $moved_good!($x, $one, $zero),
-        ]
+// Four parts in one word, the first one lowest.
+macro_rules! word {
+    ($first:expr, $second:expr, $third:expr, $fourth:expr) => {
+        $first | $second << 16 | $third << 32 | $fourth << 48
     };
 }
 
-macro_rules! parts_of_and {
+// The parts of the first argument of AND and of OR. Each half of a result is that half of one of the two members, and
+// the other member's may be moved to it.
+macro_rules! by_one_move {
+    ($moved:ident $moved_good:ident $x:tt $one:tt $zero:tt) => {
+        word!(
+            set!($x, $one, $zero),
+            $moved_good!($moved!($x), $moved!($one), $moved!($zero)),
+            set!($moved!($x), $moved!($one), $moved!($zero)),
+            $moved_good!($x, $one, $zero)
+        )
+    };
+}
+
+// The parts of the second argument: what the first one keeps is moved here, and the other way round.
+macro_rules! by_other_move {
+    ($moved:ident $moved_good:ident $x:tt $one:tt $zero:tt) => {
+        word!(
+            $moved_good!($moved!($x), $moved!($one), $moved!($zero)),
+            set!($x, $one, $zero),
+            $moved_good!($x, $one, $zero),
+            set!($moved!($x), $moved!($one), $moved!($zero))
+        )
+    };
+}
+
+macro_rules! first_of_and {
     ($x:tt $one:tt $zero:tt) => {
         by_one_move!(lowered lowered_good $x $one $zero)
     };
 }
 
-macro_rules! parts_of_or {
+macro_rules! second_of_and {
+    ($x:tt $one:tt $zero:tt) => {
+        by_other_move!(lowered lowered_good $x $one $zero)
+    };
+}
+
+macro_rules! first_of_or {
     ($x:tt $one:tt $zero:tt) => {
         by_one_move!(raised raised_good $x $one $zero)
     };
 }
 
+macro_rules! second_of_or {
+    ($x:tt $one:tt $zero:tt) => {
+        by_other_move!(raised raised_good $x $one $zero)
+    };
+}
+
 // Where a half of the first member is 0, the second member's passes; where it is 1, the second's complement does. Each
-// of two moves of the good halves comes after each of two moves of the faulty halves. The second argument has its moves
-// of the faulty halves in the other order, since parts meet crosswise.
+// of two moves of the good halves comes after each of two moves of the faulty halves.
 macro_rules! by_two_moves {
     ($zero_moved:ident $zero_good:ident $one_moved:ident $one_good:ident $x:tt $one:tt $zero:tt) => {
-        [
+        word!(
             $zero_good!($zero_moved!($x), $zero_moved!($one), $zero_moved!($zero)),
             $zero_good!($one_moved!($x), $one_moved!($one), $one_moved!($zero)),
             $one_good!($zero_moved!($x), $zero_moved!($one), $zero_moved!($zero)),
-            $one_good!($one_moved!($x), $one_moved!($one), $one_moved!($zero)),
-        ]
+            $one_good!($one_moved!($x), $one_moved!($one), $one_moved!($zero))
+        )
     };
 }
 
@@ -170,23 +202,30 @@ macro_rules! first_of_xor {
 
 macro_rules! second_of_xor {
     ($x:tt $one:tt $zero:tt) => {
-        by_two_moves!(complemented blurred_good blurred complemented_good $x $one $zero)
+        by_two_moves!(blurred blurred_good complemented complemented_good $x $one $zero)
+    };
+}
+
+// A set itself, and its complements.
+macro_rules! itself {
+    ($x:tt $one:tt $zero:tt) => {
+        set!($x, $one, $zero)
+    };
+}
+
+macro_rules! complements {
+    ($x:tt $one:tt $zero:tt) => {
+        complemented_good!(complemented!($x), complemented!($one), complemented!($zero))
     };
 }
 
 // NOT and BUFF have one argument. A second one, which has a member, makes no difference.
-macro_rules! first_alone {
-    ($x:tt $one:tt $zero:tt) => {
-        [set!($x, $one, $zero), 0, 0, 0]
-    };
-}
-
 macro_rules! any_second {
     (0 0 0) => {
-        [0, 0, 0, 0]
+        0
     };
     ($x:tt $one:tt $zero:tt) => {
-        [0, 0o777, 0, 0]
+        0o777
     };
 }
 
@@ -285,17 +324,20 @@ macro_rules! each_set {
 }
 
 /// The four parts of each first argument, for the operations of AND, OR, XOR and BUFF.
-pub(crate) static FIRST: [[[u16; 4]; 512]; 4] = [
-    each_set!(parts_of_and),
-    each_set!(parts_of_or),
+pub(crate) static FIRST: [[u64; 512]; 4] = [
+    each_set!(first_of_and),
+    each_set!(first_of_or),
     each_set!(first_of_xor),
-    each_set!(first_alone),
+    each_set!(itself),
 ];
 
 /// The four parts of each second argument.
-pub(crate) static SECOND: [[[u16; 4]; 512]; 4] = [
-    each_set!(parts_of_and),
-    each_set!(parts_of_or),
+pub(crate) static SECOND: [[u64; 512]; 4] = [
+    each_set!(second_of_and),
+    each_set!(second_of_or),
     each_set!(second_of_xor),
     each_set!(any_second),
 ];
+
+/// What a kind makes of the folded set: the set itself, and its complements where the kind inverts.
+pub(crate) static POLARITIES: [[u16; 512]; 2] = [each_set!(itself), each_set!(complements)];
