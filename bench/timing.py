@@ -147,8 +147,13 @@ def ratio(runs, others):
     return statistics.median(one.seconds / other.seconds for one, other in zip(runs, others))
 
 
-def build_plain(folder):
-    """The plain program, as the machine's rustc builds it."""
-    program = folder / "plain"
-    subprocess.run(["rustc", "--edition", "2024", "-O", ROOT / "bench/plain/main.rs", "-o", program], check=True)
+def build_plain(folder, commit=None):
+    """The plain program, as the machine's rustc builds it, from its sources as they stand or as a commit has them."""
+    program, sources = folder / "plain", ROOT / "bench/plain"
+    if commit:
+        sources = folder / f"plain_{commit}"
+        sources.mkdir(exist_ok=True)
+        archive = subprocess.run(["git", "archive", f"{commit}:bench/plain"], cwd=ROOT, stdout=subprocess.PIPE, check=True)
+        subprocess.run(["tar", "-x", "-C", sources], input=archive.stdout, check=True)
+    subprocess.run(["rustc", "--edition", "2024", "-O", sources / "main.rs", "-o", program], check=True)
     return program
