@@ -4,12 +4,13 @@
 //! frames after it; what s holds nothing reads.
 use ht_bench::read;
 use ht_check::entry;
+use ht_desks::CleanDesk;
 use ht_forward::{Ahead, Swept, propagate, sweep};
 use ht_items::Items;
 use ht_justify::{Back, justify};
 use ht_net::{Circuit, Fault, NetId, Site, Vectors};
 use ht_oneframe::{OneFrame, refute};
-use ht_ports::{CleanDesk, Desk, InPort, read_all};
+use ht_ports::{Desk, InPort, read_all};
 use ht_tern::Tern::{One, Unk, Zero};
 use ht_tree::{Entry, Token};
 use ht_window::PairState;

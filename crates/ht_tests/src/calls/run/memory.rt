@@ -1,10 +1,11 @@
 //! Refused memory. In the gate no allocation is refused; outside it these tests run with each of their allocations
 //! refused in turn (`rt try --test --fail-alloc N`, and `model/refused --desk`).
-ghost use Rattle.ht_ports.specs.Memory.{memory_view};
+ghost use Rattle.ht_desks.specs.Memory.{memory_view};
 
 use super::rows::{status_of, words_of};
 use ht_app::run;
-use ht_ports::{Desk, Failed, InPort, MemoryDesk, OutPort};
+use ht_desks::MemoryDesk;
+use ht_ports::{Desk, Failed, InPort, OutPort};
 use std::alloc::{AllocError, Global};
 use std::test::Fail;
 

@@ -22,9 +22,9 @@
 
 use super::samples::SAMPLES;
 use ht_app::run;
+use ht_desks::{Fail, MemoryDesk};
 use ht_ports::InPort::{Netlist, Tests};
 use ht_ports::OutPort::{self, Err as ErrPort, Out, Proofs, Report};
-use ht_ports::{Fail, MemoryDesk};
 use std::alloc::{AllocError, Global};
 use std::mem::replace;
 use std::str::from_utf8;

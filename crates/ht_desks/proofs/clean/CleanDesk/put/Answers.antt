@@ -1,10 +1,10 @@
 use Rattle.std.proofs.Common.{◌≡◌, ◌++◌, List, [], ◌∷◌, ℕ, Some, drop, ◌∙◌, ap, refl, rules}
 use Rattle.std.specs.Prelude.{string_bytes}
-use Rattle.ht_ports.specs.declared.clean.NamedText.{NamedText}
-use Rattle.ht_ports.specs.NamedTexts.{text_named, opened_in}
+use Rattle.ht_desks.specs.declared.clean.NamedText.{NamedText}
+use Rattle.ht_desks.specs.NamedTexts.{text_named, opened_in}
 use Rattle.ht_ports.specs.PerPort.{at_in_port}
-use Rattle.ht_ports.proofs.NamedTextLaws.{named_put, named_kept, opened_push}
-use Rattle.ht_ports.proofs.clean.CleanDesk.put.Goals as goal
+use Rattle.ht_desks.proofs.NamedTextLaws.{named_put, named_kept, opened_push}
+use Rattle.ht_desks.proofs.clean.CleanDesk.put.Goals as goal
 
 pub returns-clause-put : goal.returns-clause-put
 returns-clause-put c =

@@ -6,7 +6,7 @@ use Rattle.std.specs.Str.{bytes_eq}
 use Rattle.ht_ports.specs.PerPort.{at_in_port}
 use Rattle.ht_ports.specs.declared.ports.InPort.{InPort}
 use Rattle.ht_ports.specs.declared.per_port.PerInPort.{PerInPort}
-use Rattle.ht_ports.specs.declared.clean.NamedText.{NamedText}
+use Rattle.ht_desks.specs.declared.clean.NamedText.{NamedText}
 
 -- the bytes of the newest text of this name
 abbrev pub text_named : List NamedText → List ℕ → Option (List ℕ)

@@ -1,6 +1,6 @@
 //! Files in memory: their bytes by their names.
 ghost use Rattle.std.specs.Prelude.{◌≡◌, ◌≢◌, ◌++◌, List, ℕ, OnOk, OnErr, IfOk, IfSome, Some};
-ghost use Rattle.ht_ports.specs.Store.{file_of};
+ghost use Rattle.ht_desks.specs.Store.{file_of};
 
 use std::alloc::{AllocError, Global};
 use std::collections::BTreeMap;

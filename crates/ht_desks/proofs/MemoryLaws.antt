@@ -2,11 +2,11 @@
 use Rattle.std.proofs.Common.{◌≡◌, ◌≢◌, ℕ, drop, Some, le_refl, refl, ap}
 use Rattle.ht_ports.specs.declared.ports.InPort.{InPort}
 use Rattle.ht_ports.specs.declared.per_port.PerInPort.{PerInPort}
-use Rattle.ht_ports.specs.declared.memory.MemoryDesk.{MemoryDesk}
+use Rattle.ht_desks.specs.declared.memory.MemoryDesk.{MemoryDesk}
 use Rattle.ht_ports.specs.PerPort.{at_in_port}
-use Rattle.ht_ports.specs.Store.{bytes_of}
+use Rattle.ht_desks.specs.Store.{bytes_of}
 use Rattle.ht_ports.specs.Desk.{Reads}
-use Rattle.ht_ports.specs.Memory.{memory_view}
+use Rattle.ht_desks.specs.Memory.{memory_view}
 
 -- a port took more of its text
 pub reads_taken : (port : InPort) (m : MemoryDesk) (taken : PerInPort ℕ)

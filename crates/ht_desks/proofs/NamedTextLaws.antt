@@ -6,8 +6,8 @@ use Rattle.std.specs.declared.option.Option.{Option}
 use Rattle.std.specs.Option.{ForSome, option_or}
 use Rattle.std.proofs.lemmas.List.{take_more}
 use Rattle.std.proofs.lemmas.Slice.Eq.{bytes_eq-Decides}
-use Rattle.ht_ports.specs.NamedTexts.{text_named, bytes_at, opened_in}
-use Rattle.ht_ports.specs.declared.clean.NamedText.{NamedText}
+use Rattle.ht_desks.specs.NamedTexts.{text_named, bytes_at, opened_in}
+use Rattle.ht_desks.specs.declared.clean.NamedText.{NamedText}
 
 -- the bytes at an index are those of the text there
 pub bytes_in : (texts : List NamedText) (k : ℕ) (d : NamedText) → k < length texts → bytes_at texts k

@@ -1,0 +1,4 @@
+pub mod Clean
+pub mod Memory
+pub mod NamedTexts
+pub mod Store
