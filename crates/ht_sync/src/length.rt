@@ -1,5 +1,6 @@
 //! The search of each length.
 ghost use Rattle.std.specs.Prelude.{◌≡◌, ◌<◌, ◌≤◌, ℕ, [], IfOk};
+ghost use Rattle.ht_net.specs.Circuit.Netlist.{Netlist};
 ghost use Rattle.ht_tree.specs.Walk.Searches.{node_at};
 ghost use Rattle.ht_search.specs.Outcomes.{IsOutcome};
 ghost use Rattle.ht_forward.specs.LengthAnswers.{IsOneLength};
@@ -10,7 +11,7 @@ use crate::trial::{SyncTrial, explore};
 use ht_forward::{LengthSearch, OneLength};
 use ht_items::Items;
 use ht_search::Outcome;
-use ht_window::{Bases, MAX_FRAMES, Start, list};
+use ht_window::{Bases, MAX_FRAMES, Start, Window, list};
 use std::alloc::{AllocError, Global};
 
 /// The windows in which a list that synchronizes is searched for.
@@ -35,13 +36,26 @@ impl<'c> LengthSearch for SyncSearch<'c> {
 
     fn search(&mut self, alloc: Global, frames: u32, budget: u64) -> Result<OneLength, AllocError> {
         let mut trial = begin(alloc, &mut self.bases, frames)?;
-        let outcome = explore(alloc, &mut trial, budget)?;
-        let length = answer(alloc, &trial, outcome)?;
-        Ok(length)
+        search_trial(alloc, &mut trial, budget)
     }
 }
 
-// The window of so many frames before its first decision.
+// The window of so many frames from all-unknown before its first decision.
+fn unknown_window<'c>(
+    alloc: Global,
+    bases: &mut Bases<'c>,
+    frames: u32,
+) -> Result<Window<'c>, AllocError>
+    requires some { 0 < frames }
+    requires few { frames ≤ MAX_FRAMES }
+    ensures circuit { bases.new.circuit ≡ bases.old.circuit }
+    ensures window { IfOk result (λ w. w.window ≡ sync_window bases.old.circuit frames) }
+    ensures decisions { IfOk result (λ w. w.decisions ≡ []) }
+{
+    bases.window(alloc, None, frames, &Start::Unknown)
+}
+
+// The trial of such a window.
 fn begin<'c>(alloc: Global, bases: &mut Bases<'c>, frames: u32) -> Result<SyncTrial<'c>, AllocError>
     requires some { 0 < frames }
     requires few { frames ≤ MAX_FRAMES }
@@ -50,8 +64,21 @@ fn begin<'c>(alloc: Global, bases: &mut Bases<'c>, frames: u32) -> Result<SyncTr
         (λ trial. trial.window.window ≡ sync_window bases.old.circuit frames) }
     ensures decisions { IfOk result (λ trial. trial.window.decisions ≡ []) }
 {
-    let window = bases.window(alloc, None, frames, &Start::Unknown)?;
+    let window = unknown_window(alloc, bases, frames)?;
     Ok(SyncTrial { window, frames })
+}
+
+// Searches a trial before its first decision.
+fn search_trial(alloc: Global, trial: &mut SyncTrial, budget: u64) -> Result<OneLength, AllocError>
+    requires { trial.old.window.decisions ≡ [] }
+    ensures { IfOk result (λ length. (circuit : Netlist) (frames : ℕ)
+        → trial.old.window.window ≡ sync_window circuit frames
+        → IsOneLength (sync_guide circuit frames) (FindsSyncList circuit frames budget) frames
+        budget length) }
+{
+    let outcome = explore(alloc, trial, budget)?;
+    let length = answer(alloc, trial, outcome)?;
+    Ok(length)
 }
 
 // What the outcome of a search within any budget comes to. The trial stands where the search left it.
