@@ -133,9 +133,9 @@ pub fn find_held<'c>(
     ensures { IfOk result (λ r. IsFinished circuit.now budget r.held r.removed.items
         r.walks.items) }
 {
+    let walks = no_walks(alloc, circuit.dffs() as usize)?;
     let held = HeldWindow::new(alloc, circuit)?;
     let removed = Vec::new(alloc);
-    let walks = no_walks(alloc, circuit.dffs() as usize)?;
     let mut rounds = Rounds {
         held,
         removed,
