@@ -1,4 +1,5 @@
 use Rattle.std.proofs.Common.{◌≡◌, ◌∙◌, ℕ, ap, sym, subst, arith}
+use Rattle.std.proofs.lemmas.Result.{IfOk-weaker}
 use Rattle.ht_search.specs.declared.outcome.Outcome.{Outcome}
 use Rattle.ht_search.specs.Outcomes.{IsOutcome}
 use Rattle.ht_tree.specs.Walk.Searches.{guide_of, node_at}
@@ -37,8 +38,9 @@ answer-requires-clause-outcome c = (
 
 pub returns : goal.returns
 returns c =
-    subst (λ (v : SearchWindow). IsAhead v c.args.budget c.in_ok-ahead.ahead) c.explore.ensures.window
-    (c.in_ok-ahead.ensures c.args.budget
+    IfOk-weaker c.answer.result _ _ (λ ahead is.
+    subst (λ (v : SearchWindow). IsAhead v c.args.budget ahead) c.explore.ensures.window
+    (is c.args.budget
     (outcome_left c.args.trial.now.window.window c.explore.new.trial.window.window c.args.frames c.args.budget
     (node_at c.explore.new.trial.window.decisions) c.in_ok-outcome.outcome c.requires.frames c.explore.ensures.window
-    c.in_ok-outcome.ensures.outcome))
+    c.in_ok-outcome.ensures.outcome))) c.answer.ensures
