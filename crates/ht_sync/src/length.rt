@@ -11,7 +11,7 @@ use crate::trial::{SyncTrial, explore};
 use ht_forward::{LengthSearch, OneLength};
 use ht_items::Items;
 use ht_search::Outcome;
-use ht_window::{Bases, MAX_FRAMES, Start, Window, list};
+use ht_window::{Bases, MAX_FRAMES, Start, list};
 use std::alloc::{AllocError, Global};
 
 /// The windows in which a list that synchronizes is searched for.
@@ -36,26 +36,14 @@ impl<'c> LengthSearch for SyncSearch<'c> {
 
     fn search(&mut self, alloc: Global, frames: u32, budget: u64) -> Result<OneLength, AllocError> {
         let mut trial = begin(alloc, &mut self.bases, frames)?;
-        search_trial(alloc, &mut trial, budget)
+        let length = search_trial(alloc, &mut trial, budget);
+        // for the proof: a drop by name is far cheaper to check than one in place
+        drop(trial);
+        length
     }
 }
 
-// The window of so many frames from all-unknown before its first decision.
-fn unknown_window<'c>(
-    alloc: Global,
-    bases: &mut Bases<'c>,
-    frames: u32,
-) -> Result<Window<'c>, AllocError>
-    requires some { 0 < frames }
-    requires few { frames ≤ MAX_FRAMES }
-    ensures circuit { bases.new.circuit ≡ bases.old.circuit }
-    ensures window { IfOk result (λ w. w.window ≡ sync_window bases.old.circuit frames) }
-    ensures decisions { IfOk result (λ w. w.decisions ≡ []) }
-{
-    bases.window(alloc, None, frames, &Start::Unknown)
-}
-
-// The trial of such a window.
+// The window of so many frames before its first decision.
 fn begin<'c>(alloc: Global, bases: &mut Bases<'c>, frames: u32) -> Result<SyncTrial<'c>, AllocError>
     requires some { 0 < frames }
     requires few { frames ≤ MAX_FRAMES }
@@ -64,7 +52,7 @@ fn begin<'c>(alloc: Global, bases: &mut Bases<'c>, frames: u32) -> Result<SyncTr
         (λ trial. trial.window.window ≡ sync_window bases.old.circuit frames) }
     ensures decisions { IfOk result (λ trial. trial.window.decisions ≡ []) }
 {
-    let window = unknown_window(alloc, bases, frames)?;
+    let window = bases.window(alloc, None, frames, &Start::Unknown)?;
     Ok(SyncTrial { window, frames })
 }
 
@@ -77,8 +65,7 @@ fn search_trial(alloc: Global, trial: &mut SyncTrial, budget: u64) -> Result<One
         budget length) }
 {
     let outcome = explore(alloc, trial, budget)?;
-    let length = answer(alloc, trial, outcome)?;
-    Ok(length)
+    answer(alloc, trial, outcome)
 }
 
 // What the outcome of a search within any budget comes to. The trial stands where the search left it.

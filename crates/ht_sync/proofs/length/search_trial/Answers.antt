@@ -1,4 +1,5 @@
 use Rattle.std.proofs.Common.{◌∙◌, ℕ, ap, subst}
+use Rattle.std.proofs.lemmas.Result.{IfOk-weaker}
 use Rattle.ht_net.specs.Circuit.Netlist.{Netlist}
 use Rattle.ht_tree.specs.Walk.Searches.{node_at}
 use Rattle.ht_tree.specs.Window.Windows.{SearchWindow}
@@ -10,16 +11,16 @@ use Rattle.ht_sync.specs.SyncWindows.{sync_goal, sync_guide}
 use Rattle.ht_sync.proofs.length.search_trial.Goals as goal
 
 pub returns : goal.returns
-returns c = λ circuit frames begun.
+returns c =
+    IfOk-weaker c.answer.result _ _ (λ length is circuit frames begun.
     let n = node_at c.explore.new.trial.window.decisions in
     let stays = c.explore.ensures.window ∙ begun in
     let long = c.explore.new.trial.known ∙ ap (λ (w : SearchWindow). w.frames) stays in
     let says : Netlist → ℕ → Type 0 = λ circuit k.
     IsOutcome (sync_guide circuit k) c.args.budget k n c.in_ok-outcome.outcome
-    → IsOneLength (sync_guide circuit k) (FindsSyncList circuit k c.args.budget) k c.args.budget
-    c.in_ok-length.length in
+    → IsOneLength (sync_guide circuit k) (FindsSyncList circuit k c.args.budget) k c.args.budget length in
     subst (says circuit) long
     (subst (λ (circuit : Netlist). says circuit c.explore.new.trial.frames) (ap (λ (w : SearchWindow). w.circuit) stays)
-    (c.in_ok-length.ensures c.args.budget))
+    (is c.args.budget))
     (subst (λ (w : SearchWindow). IsOutcome (guide_to (sync_goal w)) c.args.budget w.frames n c.in_ok-outcome.outcome)
-    begun c.in_ok-outcome.ensures.outcome)
+    begun c.in_ok-outcome.ensures.outcome)) c.answer.ensures
