@@ -52,9 +52,10 @@ pub fn search_ahead(
         (IsAhead (window_from bases.old.circuit (Some fault) frames start.now) budget) }
 {
     let mut trial = begin(alloc, bases, fault, frames, start)?;
-    let outcome = explore(alloc, &mut trial, budget, frames as u64)?;
-    let ahead = answer(alloc, &trial.window, outcome)?;
-    Ok(ahead)
+    let ahead = search_trial(alloc, &mut trial, frames, budget);
+    // for the proof: a drop by name is far cheaper to check than one in place
+    drop(trial);
+    ahead
 }
 
 // The window of a start before its first decision.
@@ -75,6 +76,25 @@ fn begin<'c>(
 {
     let window = bases.window(alloc, Some(fault), frames, start)?;
     Ok(Trial { window })
+}
+
+// Searches a window of so many frames before its first decision.
+fn search_trial(
+    alloc: Global,
+    trial: &mut Trial,
+    frames: u32,
+    budget: u64,
+) -> Result<Ahead, AllocError>
+    requires some { 0 < frames }
+    requires few { frames ≤ MAX_FRAMES }
+    requires frames { trial.old.window.window.frames ≡ frames }
+    requires outputs { state_places trial.old.window.window.circuit
+        trial.old.window.window.start ≡ [] }
+    requires decisions { trial.old.window.decisions ≡ [] }
+    ensures { IfOk result (IsAhead trial.old.window.window budget) }
+{
+    let outcome = explore(alloc, trial, budget, frames as u64)?;
+    answer(alloc, &trial.window, outcome)
 }
 
 // What the outcome of a search within any budget comes to. The window stands where the search left it.

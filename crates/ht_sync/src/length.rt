@@ -1,5 +1,6 @@
 //! The search of each length.
 ghost use Rattle.std.specs.Prelude.{◌≡◌, ◌<◌, ◌≤◌, ℕ, [], IfOk};
+ghost use Rattle.ht_net.specs.Circuit.Netlist.{Netlist};
 ghost use Rattle.ht_tree.specs.Walk.Searches.{node_at};
 ghost use Rattle.ht_search.specs.Outcomes.{IsOutcome};
 ghost use Rattle.ht_forward.specs.LengthAnswers.{IsOneLength};
@@ -35,9 +36,10 @@ impl<'c> LengthSearch for SyncSearch<'c> {
 
     fn search(&mut self, alloc: Global, frames: u32, budget: u64) -> Result<OneLength, AllocError> {
         let mut trial = begin(alloc, &mut self.bases, frames)?;
-        let outcome = explore(alloc, &mut trial, budget)?;
-        let length = answer(alloc, &trial, outcome)?;
-        Ok(length)
+        let length = search_trial(alloc, &mut trial, budget);
+        // for the proof: a drop by name is far cheaper to check than one in place
+        drop(trial);
+        length
     }
 }
 
@@ -52,6 +54,18 @@ fn begin<'c>(alloc: Global, bases: &mut Bases<'c>, frames: u32) -> Result<SyncTr
 {
     let window = bases.window(alloc, None, frames, &Start::Unknown)?;
     Ok(SyncTrial { window, frames })
+}
+
+// Searches a trial before its first decision.
+fn search_trial(alloc: Global, trial: &mut SyncTrial, budget: u64) -> Result<OneLength, AllocError>
+    requires { trial.old.window.decisions ≡ [] }
+    ensures { IfOk result (λ length. (circuit : Netlist) (frames : ℕ)
+        → trial.old.window.window ≡ sync_window circuit frames
+        → IsOneLength (sync_guide circuit frames) (FindsSyncList circuit frames budget) frames
+        budget length) }
+{
+    let outcome = explore(alloc, trial, budget)?;
+    answer(alloc, trial, outcome)
 }
 
 // What the outcome of a search within any budget comes to. The trial stands where the search left it.

@@ -129,8 +129,7 @@ fn search_from_start(
         problem.old.held.members problem.old.net.0) }
 {
     let outcome = search(alloc, problem, budget, 1)?;
-    let out = said(alloc, &problem.held, outcome)?;
-    Ok(out)
+    said(alloc, &problem.held, outcome)
 }
 
 /// Searches for decisions under which a net isn't unknown, within a budget of which each token takes one.
@@ -152,8 +151,17 @@ pub fn search_net<'c>(
         (λ s. IsOutput held.entry.circuit budget held.entry.members net.0 s.out) }
 {
     let mut problem = NetSearch { held, net };
-    let out = search_from_start(alloc, &mut problem, budget)?;
+    let out = search_from_start(alloc, &mut problem, budget);
     let NetSearch { mut held, net: _ } = problem;
-    held.undo_to(0);
-    Ok(Searched { held, out })
+    match out {
+        Ok(out) => {
+            held.undo_to(0);
+            Ok(Searched { held, out })
+        },
+        Err(error) => {
+            // for the proof: a drop by name is far cheaper to check than one in place
+            drop(held);
+            Err(error)
+        },
+    }
 }

@@ -1,5 +1,5 @@
 //! The rounds in which flip-flops are removed from the set that is held unknown.
-ghost use Rattle.std.specs.Prelude.{◌≡◌, ◌<◌, ◌+◌, None, length, replicate, IfOk};
+ghost use Rattle.std.specs.Prelude.{◌≡◌, ◌<◌, ◌+◌, ◌++◌, ◌∷◌, [], ℕ, None, length, replicate, set, IfOk, OnOk};
 ghost use Rattle.ht_uninit.specs.RoundStates.{IsAt, IsFinished, IsRemoved};
 
 use crate::held_window::HeldWindow;
@@ -20,6 +20,22 @@ pub struct Rounds<'c> {
     pub before: usize,
 }
 
+// Notes the removal of flip-flop j, which has no walk then.
+fn note_removal(
+    removed: &mut Vec<Removed>,
+    walks: &mut Vec<Option<Items<Token>>>,
+    j: u32,
+    why: Removed,
+) -> Result<(), AllocError>
+    requires { j < length walks.old.items }
+    ensures removed { OnOk result (removed.new.items ≡ removed.old.items ++ why ∷ []) }
+    ensures walks { OnOk result (walks.new.items ≡ set walks.old.items j None) }
+{
+    removed.push(why)?;
+    walks[j as usize] = None;
+    Ok(())
+}
+
 // Removes flip-flop j, for a reason.
 fn remove<'c>(rounds: Rounds<'c>, j: u32, why: Removed) -> Result<Rounds<'c>, AllocError>
     requires member { j < length rounds.held.circuit.dffs }
@@ -32,9 +48,9 @@ fn remove<'c>(rounds: Rounds<'c>, j: u32, why: Removed) -> Result<Rounds<'c>, Al
         mut walks,
         before,
     } = rounds;
-    removed.push(why)?;
-    walks[j as usize] = None;
-    let held = held.without(j)?;
+    let noted = note_removal(&mut removed, &mut walks, j, why);
+    // for the proof: where the removal isn't noted, `and` drops the window
+    let held = noted.and(held.without(j))?;
     Ok(Rounds {
         held,
         removed,
@@ -121,6 +137,22 @@ fn no_walks(alloc: Global, count: usize) -> Result<Vec<Option<Items<Token>>>, Al
     Ok(walks)
 }
 
+// Before the first round all flip-flops are held unknown.
+fn first_rounds<'c>(alloc: Global, circuit: &'c Circuit) -> Result<Rounds<'c>, AllocError>
+    ensures { IfOk result (λ r. (budget : ℕ) → IsAt circuit.now budget (length r.removed.items) 0
+        r.held r.removed.items r.walks.items) }
+{
+    let walks = no_walks(alloc, circuit.dffs() as usize)?;
+    let held = HeldWindow::new(alloc, circuit)?;
+    let removed = Vec::new(alloc);
+    Ok(Rounds {
+        held,
+        removed,
+        walks,
+        before: 0,
+    })
+}
+
 /// Rounds over the flip-flops of a circuit, at first all held unknown, until one round removes none.
 ///
 /// # Errors
@@ -133,15 +165,7 @@ pub fn find_held<'c>(
     ensures { IfOk result (λ r. IsFinished circuit.now budget r.held r.removed.items
         r.walks.items) }
 {
-    let held = HeldWindow::new(alloc, circuit)?;
-    let removed = Vec::new(alloc);
-    let walks = no_walks(alloc, circuit.dffs() as usize)?;
-    let mut rounds = Rounds {
-        held,
-        removed,
-        walks,
-        before: 0,
-    };
+    let mut rounds = first_rounds(alloc, circuit)?;
     'rounds: loop {
         let next = round(alloc, circuit, rounds, budget)?;
         let last = next.removed.len() == next.before;

@@ -1,5 +1,5 @@
 //! Flip-flops that never get a definite value, outputs that never show one, and the faults that they hide.
-ghost use Rattle.std.specs.Prelude.{◌≡◌, ◌<◌, ◌+◌, [], length, map, IfOk, OnOk};
+ghost use Rattle.std.specs.Prelude.{◌≡◌, ◌<◌, ◌+◌, ◌++◌, ◌∷◌, [], length, map, IfOk, OnOk};
 ghost use Rattle.std.specs.List.{All, range_with_len};
 ghost use Rattle.ht_net.specs.Circuit.Netlist.{net_count};
 ghost use Rattle.ht_faults.specs.Sites.{IsFaultSite, faults_of};
@@ -17,6 +17,14 @@ use crate::uninit_record::UninitRecord;
 use ht_faults::FaultList;
 use ht_net::{Circuit, NetId, Site};
 use std::alloc::{AllocError, Global};
+
+// Adds what the search of an output came to.
+fn add(outs: &mut Vec<Out3>, out: Out3) -> Result<(), AllocError>
+    ensures { OnOk result (outs.new.items ≡ outs.old.items ++ out ∷ []) }
+{
+    outs.push(out)?;
+    Ok(())
+}
 
 // Searches output o, adds what that came to after the outputs before it, and gives the window back.
 fn search_output<'c>(
@@ -44,8 +52,8 @@ fn search_output<'c>(
     let net = circuit.output(o);
     let searched = search_net(alloc, held, net, budget)?;
     let Searched { held: next, out } = searched;
-    outs.push(out)?;
-    Ok(next)
+    // for the proof: where no output can be added, `and` drops the window
+    add(outs, out).and(Ok(next))
 }
 
 // Searches each output.
@@ -67,6 +75,8 @@ fn search_outputs<'c>(
         let next = search_output(alloc, circuit, window, o, budget, &mut outs)?;
         window = next;
     }
+    // for the proof: a drop by name is far cheaper to check than one in place
+    drop(window);
     Ok(outs)
 }
 

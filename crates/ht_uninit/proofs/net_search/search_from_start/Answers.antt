@@ -1,4 +1,5 @@
 use Rattle.std.proofs.Common.{◌∙◌, ap, sym, subst}
+use Rattle.std.proofs.lemmas.Result.{IfOk-weaker}
 use Rattle.ht_search.proofs.WindowStepLaws.{window_node}
 use Rattle.ht_search.specs.Outcomes.{IsOutcome}
 use Rattle.ht_tree.specs.Walk.Searches.{node_at}
@@ -11,10 +12,12 @@ pub search-requires-clause-start : goal.search-requires-clause-start
 search-requires-clause-start c = window_node c.args.problem.now.held.path ∙ ap node_at c.requires
 
 pub returns-clause-circuit : goal.returns-clause-circuit
-returns-clause-circuit c = ap (λ (s : HeldNet). s.circuit) c.search.ensures.subject
+returns-clause-circuit c =
+    IfOk-weaker c.said.result _ _ (λ out is. ap (λ (s : HeldNet). s.circuit) c.search.ensures.subject) c.said.ensures
 
 pub returns-clause-members : goal.returns-clause-members
-returns-clause-members c = ap (λ (s : HeldNet). s.members) c.search.ensures.subject
+returns-clause-members c =
+    IfOk-weaker c.said.result _ _ (λ out is. ap (λ (s : HeldNet). s.members) c.search.ensures.subject) c.said.ensures
 
 pub returns-clause-out : goal.returns-clause-out
 returns-clause-out c =
@@ -25,7 +28,8 @@ returns-clause-out c =
       members = c.args.problem.now.held.members;
       net = c.args.problem.now.net.0;
     })) c.args.budget 1 n c.in_ok-outcome.outcome) (window_node path) c.in_ok-outcome.ensures.outcome in
-    subst (λ (s : HeldNet). IsOutput s.circuit c.args.budget s.members s.net c.in_ok-out.out) same
-    (c.in_ok-out.ensures c.args.budget c.search.new.problem.net.0
+    IfOk-weaker c.said.result _ _ (λ out is.
+    subst (λ (s : HeldNet). IsOutput s.circuit c.args.budget s.members s.net out) same
+    (is c.args.budget c.search.new.problem.net.0
     (subst (λ (s : HeldNet). IsOutcome (guide_for s) c.args.budget 1 (node_at path) c.in_ok-outcome.outcome) (sym same)
-    at_path))
+    at_path))) c.said.ensures

@@ -1,26 +1,7 @@
-use Rattle.std.proofs.Common.{◌∙◌, ℕ, ap, subst}
-use Rattle.ht_net.specs.Circuit.Netlist.{Netlist}
-use Rattle.ht_tree.specs.Walk.Searches.{node_at}
-use Rattle.ht_tree.specs.Window.Windows.{SearchWindow}
-use Rattle.ht_search.specs.Outcomes.{IsOutcome}
-use Rattle.ht_forward.specs.Goals.{guide_to}
-use Rattle.ht_forward.specs.LengthAnswers.{IsOneLength}
-use Rattle.ht_sync.specs.SyncSearches.{FindsSyncList}
-use Rattle.ht_sync.specs.SyncWindows.{sync_goal, sync_guide}
+use Rattle.std.proofs.lemmas.Result.{IfOk-weaker}
 use Rattle.ht_sync.proofs.length.SyncSearchLengthSearch.search.Goals as goal
 
 pub returns-clause-answer : goal.returns-clause-answer
 returns-clause-answer c =
-    let n = node_at c.explore.new.trial.window.decisions in
-    let begun = c.in_ok-trial.ensures.window in
-    let stays = c.explore.ensures.window ∙ begun in
-    let frames = c.explore.new.trial.known ∙ ap (λ (w : SearchWindow). w.frames) stays in
-    let says : Netlist → ℕ → Type 0 = λ circuit k.
-    IsOutcome (sync_guide circuit k) c.args.budget k n c.in_ok-outcome.outcome
-    → IsOneLength (sync_guide circuit k) (FindsSyncList circuit k c.args.budget) k c.args.budget
-    c.in_ok-length.length in
-    subst (says c.args.self.now.bases.circuit) frames
-    (subst (λ (circuit : Netlist). says circuit c.explore.new.trial.frames) (ap (λ (w : SearchWindow). w.circuit) stays)
-    (c.in_ok-length.ensures c.args.budget))
-    (subst (λ (w : SearchWindow). IsOutcome (guide_to (sync_goal w)) c.args.budget w.frames n c.in_ok-outcome.outcome)
-    begun c.in_ok-outcome.ensures.outcome)
+    IfOk-weaker c.search_trial-length.result _ _
+    (λ length is. is c.args.self.now.bases.circuit c.args.frames c.in_ok-trial.ensures.window) c.search_trial-length.ensures
