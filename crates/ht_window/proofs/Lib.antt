@@ -25,3 +25,4 @@ pub mod FollowLaws
 pub mod AllSetsLaws
 pub mod OtherFaultLaws
 pub mod RenewLaws
+pub mod ResultLaws

@@ -1,6 +1,7 @@
 //! Windows before their first decision, one made from another.
-ghost use Rattle.std.specs.Prelude.{◌≡◌, ◌≤◌, ◌<◌, IsTrue, None, [], IfOk};
+ghost use Rattle.std.specs.Prelude.{◌≡◌, ◌≤◌, ◌<◌, ℕ, IsTrue, None, [], IfOk};
 ghost use Rattle.ht_tree.specs.Window.Windows.{IsStart};
+ghost use Rattle.ht_events.specs.Pending.{IsPending};
 ghost use Rattle.ht_relevant.specs.Relevant.{IsRelevant};
 ghost use Rattle.ht_window.specs.Starts.{start_of};
 ghost use Rattle.ht_window.specs.Setups.{IsSetup, window_for};
@@ -17,10 +18,25 @@ use crate::restrict::restrict;
 use crate::setup::Setup;
 use crate::start::Start;
 use crate::window::Window;
-use ht_events::{Core, FramePlan};
-use ht_net::Fault;
+use ht_events::{Core, FramePlan, MAX_FRAMES};
+use ht_net::{Circuit, Fault};
 use std::alloc::{AllocError, Global};
 use std::rc::Rc;
+
+// A core for a window's frames, in which no item is pending.
+fn new_core<'c>(
+    alloc: Global,
+    frame_plan: &Rc<FramePlan<'c>>,
+    frames: u32,
+) -> Result<Core<'c>, AllocError>
+    requires some { 0 < frames }
+    requires few { frames ≤ MAX_FRAMES }
+    ensures circuit { IfOk result (λ core. core.plan.circuit ≡ frame_plan.now.value.circuit) }
+    ensures frames { IfOk result (λ core. core.plan.frames ≡ frames) }
+    ensures none { IfOk result (λ core. (x : ℕ) → ¬ IsPending core x) }
+{
+    Core::with_plan(alloc, frame_plan.clone()?, frames)
+}
 
 impl<'c> Window<'c> {
     // A window with no decision.
@@ -42,22 +58,67 @@ impl<'c> Window<'c> {
         }
     }
 
+    // A window with no decision, of cells that hold and in which all nets matter, with events of its own.
+    fn with_events(
+        alloc: Global,
+        frame_plan: &Rc<FramePlan<'c>>,
+        held: Held<'c>,
+    ) -> Result<Window<'c>, AllocError>
+        requires plan { frame_plan.now.value.circuit ≡ held.standing.window.circuit }
+        requires path { held.standing.path ≡ [] }
+        requires whole { held.relevant ≡ None }
+        requires cells { AreCells held.standing.window (is_relevant None) [] held.cells.values }
+        ensures new { IfOk result (IsNew held.entry.standing.window) }
+        ensures whole { IfOk result (λ w. w.relevant ≡ None) }
+    {
+        match new_core(alloc, frame_plan, held.decisions().frames()) {
+            Ok(core) => Ok(Window::undecided(alloc, held, core)),
+            Err(error) => {
+                // for the proof: a drop by name is far cheaper to check than one in place
+                drop(held);
+                Err(error)
+            },
+        }
+    }
+
+    // The cells of a setup's window, in which all nets matter, before any event.
+    fn whole_held(
+        alloc: Global,
+        circuit: &'c Circuit,
+        setup: &Setup,
+    ) -> Result<Held<'c>, AllocError>
+        requires { IsSetup circuit.now setup.now }
+        ensures standing { IfOk result (λ h. h.standing ≡ record {
+          window = window_for circuit.now setup.now;
+          path = [];
+        }) }
+        ensures whole { IfOk result (λ h. h.relevant ≡ None) }
+        ensures cells { IfOk result (λ h. AreCells h.standing.window (is_relevant None) []
+            h.cells.values) }
+    {
+        let decisions = Decisions::new(alloc, setup.start, circuit, setup.fault, setup.frames)?;
+        match all_sets(alloc, &decisions) {
+            Ok(sets) => Held::new(alloc, decisions, sets),
+            Err(error) => {
+                // for the proof: a drop by name is far cheaper to check than one in place
+                drop(decisions);
+                Err(error)
+            },
+        }
+    }
+
     // A window before its first decision, in which all nets matter. The plan is that of its circuit's frames.
     pub(crate) fn with_plan(
         alloc: Global,
-        frame_plan: Rc<FramePlan<'c>>,
+        frame_plan: &Rc<FramePlan<'c>>,
         setup: &Setup,
     ) -> Result<Window<'c>, AllocError>
-        requires { IsSetup frame_plan.value.circuit setup.now }
-        ensures new { IfOk result (IsNew (window_for frame_plan.entry.value.circuit setup.now)) }
+        requires { IsSetup frame_plan.now.value.circuit setup.now }
+        ensures new { IfOk result (IsNew (window_for frame_plan.now.value.circuit setup.now)) }
         ensures whole { IfOk result (λ w. w.relevant ≡ None) }
     {
-        let circuit = frame_plan.circuit();
-        let decisions = Decisions::new(alloc, setup.start, circuit, setup.fault, setup.frames)?;
-        let sets = all_sets(alloc, &decisions)?;
-        let held = Held::new(alloc, decisions, sets)?;
-        let core = Core::with_plan(alloc, frame_plan, setup.frames)?;
-        Ok(Window::undecided(alloc, held, core))
+        let held = Window::whole_held(alloc, frame_plan.circuit(), setup)?;
+        Window::with_events(alloc, frame_plan, held)
     }
 
     // Whether this is a window of a setup's fault and start.
@@ -103,8 +164,8 @@ impl<'c> Window<'c> {
         // for the proof: there is a cell for each net of each frame
         let whole = self.held.decisions();
         let circuit = whole.circuit();
-        let decisions = Decisions::new(alloc, setup.start, circuit, setup.fault, setup.frames)?;
         let sets = self.held.front(alloc, setup.frames)?;
+        let decisions = Decisions::new(alloc, setup.start, circuit, setup.fault, setup.frames)?;
         Held::new(alloc, decisions, sets)
     }
 
@@ -123,19 +184,28 @@ impl<'c> Window<'c> {
         ensures new { IfOk result (IsNew held.entry.standing.window) }
         ensures relevant { IfOk result (λ w. w.relevant ≡ held.entry.relevant) }
     {
-        follow_fault(&mut held, &mut core, before)?;
-        held.forget();
-        Ok(Window::undecided(alloc, held, core))
+        match follow_fault(&mut held, &mut core, before) {
+            Ok(()) => {
+                held.forget();
+                Ok(Window::undecided(alloc, held, core))
+            },
+            Err(error) => {
+                // for the proof: a drop by name is far cheaper to check than one in place
+                drop(held);
+                drop(core);
+                Err(error)
+            },
+        }
     }
 
     // The same, with events of its own.
     fn followed(
         alloc: Global,
-        frame_plan: Rc<FramePlan<'c>>,
+        frame_plan: &Rc<FramePlan<'c>>,
         held: Held<'c>,
         before: Option<Fault>,
     ) -> Result<Window<'c>, AllocError>
-        requires plan { frame_plan.value.circuit ≡ held.standing.window.circuit }
+        requires plan { frame_plan.now.value.circuit ≡ held.standing.window.circuit }
         requires path { held.standing.path ≡ [] }
         requires good { held.standing.window.fault ≡ None → held.relevant ≡ None }
         requires relevant { IsRelevant held.standing.window (is_relevant held.relevant) }
@@ -143,8 +213,14 @@ impl<'c> Window<'c> {
         ensures new { IfOk result (IsNew held.entry.standing.window) }
         ensures relevant { IfOk result (λ w. w.relevant ≡ held.entry.relevant) }
     {
-        let core = Core::with_plan(alloc, frame_plan, held.decisions().frames())?;
-        Window::settled(alloc, held, core, before)
+        match new_core(alloc, frame_plan, held.decisions().frames()) {
+            Ok(core) => Window::settled(alloc, held, core, before),
+            Err(error) => {
+                // for the proof: a drop by name is far cheaper to check than one in place
+                drop(held);
+                Err(error)
+            },
+        }
     }
 
     // This base, once it has followed a setup's fault and start. Its cells and events stay where they are.
@@ -158,13 +234,21 @@ impl<'c> Window<'c> {
         let before = self.fault();
         let whole = self.held.decisions();
         let (circuit, frames) = (whole.circuit(), whole.frames());
-        let decisions = Decisions::new(alloc, setup.start, circuit, setup.fault, frames)?;
-        let Window {
-            held,
-            core,
-            marks: _,
-        } = self;
-        Window::settled(alloc, held.under(decisions), core, before)
+        match Decisions::new(alloc, setup.start, circuit, setup.fault, frames) {
+            Ok(decisions) => {
+                let Window {
+                    held,
+                    core,
+                    marks: _,
+                } = self;
+                Window::settled(alloc, held.under(decisions), core, before)
+            },
+            Err(error) => {
+                // for the proof: a drop by name is far cheaper to check than one in place
+                drop(self);
+                Err(error)
+            },
+        }
     }
 
     // The window of a setup, made of the first frames of this base. In a large circuit those nets alone matter that the
@@ -172,27 +256,33 @@ impl<'c> Window<'c> {
     pub(crate) fn restricted(
         &self,
         alloc: Global,
-        frame_plan: Rc<FramePlan<'c>>,
+        frame_plan: &Rc<FramePlan<'c>>,
         setup: &Setup,
     ) -> Result<Window<'c>, AllocError>
-        requires plan { frame_plan.value.circuit ≡ self.now.window.circuit }
+        requires plan { frame_plan.now.value.circuit ≡ self.now.window.circuit }
         requires base { IsBaseFor self.now.window.circuit setup.now self.now }
         requires setup { IsSetup self.now.window.circuit setup.now }
         ensures { IfOk result (IsNew (window_for self.now.window.circuit setup.now)) }
     {
         let mut held = self.held_of(alloc, setup)?;
-        restrict(alloc, &frame_plan, &mut held)?;
-        Window::followed(alloc, frame_plan, held, self.fault())
+        match restrict(alloc, frame_plan, &mut held) {
+            Ok(()) => Window::followed(alloc, frame_plan, held, self.fault()),
+            Err(error) => {
+                // for the proof: a drop by name is far cheaper to check than one in place
+                drop(held);
+                Err(error)
+            },
+        }
     }
 
     // The window of the first frames.
     pub(crate) fn front(
         &self,
         alloc: Global,
-        frame_plan: Rc<FramePlan<'c>>,
+        frame_plan: &Rc<FramePlan<'c>>,
         frames: u32,
     ) -> Result<Window<'c>, AllocError>
-        requires plan { frame_plan.value.circuit ≡ self.now.window.circuit }
+        requires plan { frame_plan.now.value.circuit ≡ self.now.window.circuit }
         requires base { IsBase self.now.window.circuit self.now }
         requires few { frames ≤ self.now.window.frames }
         requires start { IsStart self.now.window.circuit self.now.window.fault frames
@@ -200,10 +290,9 @@ impl<'c> Window<'c> {
         ensures { IfOk result (IsNew (record self.now.window { frames = frames })) }
     {
         let whole = self.held.decisions();
-        let part = Decisions::new(alloc, whole.start(), whole.circuit(), whole.fault(), frames)?;
         let sets = self.held.front(alloc, frames)?;
+        let part = Decisions::new(alloc, whole.start(), whole.circuit(), whole.fault(), frames)?;
         let held = Held::new(alloc, part, sets)?;
-        let core = Core::with_plan(alloc, frame_plan, frames)?;
-        Ok(Window::undecided(alloc, held, core))
+        Window::with_events(alloc, frame_plan, held)
     }
 }

@@ -118,13 +118,6 @@ impl<'c> Bases<'c> {
         Ok(())
     }
 
-    // The plan of a frame, for one more window.
-    fn plan(&self) -> Result<Rc<FramePlan<'c>>, AllocError>
-        ensures { IfOk result (λ plan. plan.value.circuit ≡ self.now.circuit) }
-    {
-        self.frame_plan.clone()
-    }
-
     // A new base for a window, in a small circuit with the fault.
     fn new_base(&self, alloc: Global, setup: &Setup) -> Result<Window<'c>, AllocError>
         requires { IsSetup self.now.circuit setup.now }
@@ -140,7 +133,7 @@ impl<'c> Bases<'c> {
             frames: setup.frames,
             start: setup.start,
         };
-        Window::with_plan(alloc, self.plan()?, &base)
+        Window::with_plan(alloc, &self.frame_plan, &base)
     }
 
     // The base of a start's kind, or a new one where it has fewer frames than are asked for.
@@ -153,6 +146,8 @@ impl<'c> Bases<'c> {
             if base.has_front(setup) {
                 return Ok(base);
             }
+            // for the proof: a drop by name is far cheaper to check than one in place
+            drop(base);
         }
         self.new_base(alloc, setup)
     }
@@ -163,12 +158,10 @@ impl<'c> Bases<'c> {
         ensures circuit { self.new.circuit ≡ self.old.circuit }
         ensures new { IfOk result (IsNew (window_for self.old.circuit setup.now)) }
     {
-        let plan = self.plan()?;
         let old = self.base(alloc, setup)?;
         let base = old.following(alloc, setup)?;
-        let made = base.front(alloc, plan, setup.frames);
-        self.keep(base)?;
-        made
+        let made = base.front(alloc, &self.frame_plan, setup.frames);
+        self.keep(base).and(made)
     }
 
     // A window, made of a base that stays as it is.
@@ -177,11 +170,9 @@ impl<'c> Bases<'c> {
         ensures circuit { self.new.circuit ≡ self.old.circuit }
         ensures new { IfOk result (IsNew (window_for self.old.circuit setup.now)) }
     {
-        let plan = self.plan()?;
         let base = self.base(alloc, setup)?;
-        let made = base.restricted(alloc, plan, setup);
-        self.keep(base)?;
-        made
+        let made = base.restricted(alloc, &self.frame_plan, setup);
+        self.keep(base).and(made)
     }
 
     /// A window of `frames` frames from a start, before its first decision.

@@ -66,9 +66,9 @@ impl<'c> Decisions<'c> {
         let dffs = circuit.dffs();
         // for the proof: the circuit is well formed
         let _ = circuit.nets();
-        let start = start.copied(alloc)?;
         let count = frames * inputs + (dffs + dffs);
         let values = Cells::from_values(alloc, vec![in alloc; None; count as usize]?)?;
+        let start = start.copied(alloc)?;
         Ok(Decisions {
             circuit,
             fault,

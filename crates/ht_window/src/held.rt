@@ -48,6 +48,20 @@ impl<'c> Model for Held<'c> {
     ghost invariant = { IsHeld };
 }
 
+// Cells that hold these sets, and room for the pins of one gate.
+fn cells_and_pins(
+    alloc: Global,
+    sets: Vec<PairSet>,
+) -> Result<(Cells<PairSet>, Vec<PairSet>), AllocError>
+    ensures values { IfOk result (λ made. made.0.values ≡ sets.items) }
+    ensures trail { IfOk result (λ made. made.0.trail ≡ []) }
+    ensures pins { IfOk result (λ made. length made.1.items ≡ MAX_GATE_PINS) }
+{
+    let pins = vec![in alloc; PairSet::both_same(); MAX_GATE_PINS]?;
+    let cells = Cells::from_values(alloc, sets)?;
+    Ok((cells, pins))
+}
+
 impl<'c> Held<'c> {
     /// Cells that hold these sets, one for each net of each frame.
     ///
@@ -65,16 +79,21 @@ impl<'c> Held<'c> {
         ensures trail { IfOk result (λ h. h.cells.trail ≡ []) }
         ensures whole { IfOk result (λ h. h.relevant ≡ None) }
     {
-        let circuit = decisions.circuit();
         // for the proof: the circuit is well formed
-        let _ = circuit.nets();
-        let pins = vec![in alloc; PairSet::both_same(); MAX_GATE_PINS]?;
-        Ok(Held {
-            decisions,
-            cells: Cells::from_values(alloc, sets)?,
-            relevant: None,
-            pins,
-        })
+        let _ = decisions.circuit().nets();
+        match cells_and_pins(alloc, sets) {
+            Ok((cells, pins)) => Ok(Held {
+                decisions,
+                cells,
+                relevant: None,
+                pins,
+            }),
+            Err(error) => {
+                // for the proof: a drop by name is far cheaper to check than one in place
+                drop(decisions);
+                Err(error)
+            },
+        }
     }
 
     /// The same cells for other decisions over as many nets and frames. All nets matter.
@@ -88,11 +107,14 @@ impl<'c> Held<'c> {
         // for the proof: the circuit is well formed
         let _ = decisions.circuit().nets();
         let Held {
-            decisions: _,
+            decisions: before,
             cells,
-            relevant: _,
+            relevant,
             pins,
         } = self;
+        // for the proof: a drop by name is far cheaper to check than one in place
+        drop(before);
+        drop(relevant);
         Held {
             decisions,
             cells,

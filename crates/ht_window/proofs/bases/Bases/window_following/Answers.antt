@@ -2,6 +2,7 @@ use Rattle.std.proofs.Common.{◌∙◌, IfOk, refl, sym, subst}
 use Rattle.ht_net.specs.Circuit.Netlist.{Netlist}
 use Rattle.ht_tree.specs.Window.Windows.{SearchWindow, IsStart}
 use Rattle.ht_window.specs.BaseStates.{IsBaseFor, IsNew}
+use Rattle.ht_window.proofs.ResultLaws.{second_of_two}
 use Rattle.ht_window.proofs.bases.Bases.window_following.Goals as goal
 
 pub following-requires : goal.following-requires
@@ -30,9 +31,10 @@ pub returns-clause-new : goal.returns-clause-new
 returns-clause-new c =
     let b = c.in_ok-base.ensures in
     let circuit = b.base.circuit ∙ c.in_ok-old.ensures.base.base.circuit in
-    subst (λ (v : SearchWindow). IfOk c.front-made.result (IsNew v)) (λ i. record {
+    second_of_two c.keep.result c.front-made.result c.and.result _ c.and.ensures
+    (subst (λ (v : SearchWindow). IfOk c.front-made.result (IsNew v)) (λ i. record {
       circuit = circuit i;
       fault = b.fault i;
       frames = c.args.setup.now.frames;
       start = b.start i;
-    }) c.front-made.ensures
+    }) c.front-made.ensures)

@@ -2,6 +2,7 @@ use Rattle.std.proofs.Common.{IfOk, sym, subst}
 use Rattle.ht_net.specs.Circuit.Netlist.{Netlist}
 use Rattle.ht_window.specs.Setups.{IsSetup, window_for}
 use Rattle.ht_window.specs.BaseStates.{IsBaseFor, IsNew}
+use Rattle.ht_window.proofs.ResultLaws.{second_of_two}
 use Rattle.ht_window.proofs.bases.Bases.window_of_good.Goals as goal
 
 pub restricted-made-requires-clause-base : goal.restricted-made-requires-clause-base
@@ -15,5 +16,6 @@ restricted-made-requires-clause-setup c =
 
 pub returns-clause-new : goal.returns-clause-new
 returns-clause-new c =
-    subst (λ (k : Netlist). IfOk c.restricted-made.result (IsNew (window_for k c.args.setup.now)))
-    c.in_ok-base.ensures.base.base.circuit c.restricted-made.ensures
+    second_of_two c.keep.result c.restricted-made.result c.and.result _ c.and.ensures
+    (subst (λ (k : Netlist). IfOk c.restricted-made.result (IsNew (window_for k c.args.setup.now)))
+    c.in_ok-base.ensures.base.base.circuit c.restricted-made.ensures)

@@ -34,10 +34,10 @@ settled-requires-clause-holds c =
     let here : AreCells w (is_relevant None) [] a.cells.values =
     subst (λ (o : Option RelevantState). AreCells w (is_relevant o) [] a.cells.values) all
     (subst (λ (p : List Assign3). AreCells w (is_relevant a.relevant) p a.cells.values) none are) in
-    let decisions : c.in_ok-decisions.decisions ≡ record {
+    let decisions : c.in-Ok.decisions ≡ record {
       window = record w { fault = setup.fault; start = start };
       path = [];
-    } = c.in_ok-decisions.ensures ∙ (λ i. record {
+    } = c.in-Ok.ensures ∙ (λ i. record {
       window = record { circuit = circuit i; fault = setup.fault; frames = frames i; start = start };
       path = [];
     }) in

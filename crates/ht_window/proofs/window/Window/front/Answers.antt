@@ -1,4 +1,4 @@
-use Rattle.std.proofs.Common.{◌≡◌, ◌≤◌, ◌∙◌, ◌*◌, List, [], None, Option, true, ap, sym, arith, length, take, subst}
+use Rattle.std.proofs.Common.{◌≡◌, ◌≤◌, ◌∙◌, ◌*◌, List, [], None, Option, IfOk, true, ap, sym, arith, length, take, subst}
 use Rattle.std.proofs.Math.Nat.{mul-le-mul_right}
 use Rattle.std.proofs.lemmas.List.{length-take-le}
 use Rattle.ht_pairs.specs.Pairs.{Pair}
@@ -47,8 +47,8 @@ part c =
       path = [];
     }))
 
-pub undecided-requires-clause-cells : goal.undecided-requires-clause-cells
-undecided-requires-clause-cells c =
+pub with_events-requires-clause-cells : goal.with_events-requires-clause-cells
+with_events-requires-clause-cells c =
     let a = c.self.inside.held in
     let w = a.standing.window in
     let n = c.args.frames in
@@ -61,17 +61,15 @@ undecided-requires-clause-cells c =
     c.self.invariant.history in
     let values : h.cells.values ≡ take (n * net_count w.circuit) a.cells.values = c.in_ok-held.ensures.values
     ∙ c.in_ok-sets.ensures in
-    subst (λ (o : Option RelevantState). AreCells h.standing.window (is_relevant o) h.standing.path h.cells.values)
-    (sym c.in_ok-held.ensures.whole)
-    (subst (λ (s : Standing). AreCells s.window (λ f x. true) s.path h.cells.values)
-    (sym (part (goal.at.undecided-requires-clause-cells c).In_ok-held))
+    subst (λ (v : SearchWindow). AreCells v (λ f x. true) [] h.cells.values)
+    (sym (ap (λ (s : Standing). s.window) (part (goal.at.with_events-requires-clause-cells c).In_ok-held)))
     (subst (λ (l : List (List Pair)). AreCells (record w { frames = n }) (λ f x. true) [] l) (sym values)
     (front_cells w [] n a.cells.values (omega (arith, r, v))
     (subst (λ (o : Option RelevantState). AreCells w (is_relevant o) [] a.cells.values) all
-    (subst (λ (p : List Assign3). AreCells w (is_relevant a.relevant) p a.cells.values) none are)))))
+    (subst (λ (p : List Assign3). AreCells w (is_relevant a.relevant) p a.cells.values) none are))))
 
 pub returns : goal.returns
 returns c =
-    subst (λ (v : SearchWindow). IsNew v c.undecided.result)
+    subst (λ (v : SearchWindow). IfOk c.with_events.result (IsNew v))
     (ap (λ (s : Standing). s.window) (part (goal.at.returns c).In_ok-held)
-    ∙ ap (λ (s : WindowState). record s.window { frames = c.args.frames }) c.self.view_is) c.undecided.ensures.new
+    ∙ ap (λ (s : WindowState). record s.window { frames = c.args.frames }) c.self.view_is) c.with_events.ensures.new
