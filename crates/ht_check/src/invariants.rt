@@ -47,8 +47,11 @@ fn is_closed(
         (λ closed. IsTrue closed ↔ IsClosedUnder kept.old.circuit clauses.now clause.now) }
     ensures circuit { kept.new.circuit ≡ kept.old.circuit }
 {
-    let window = RecomputedClauseWindow::closing(alloc, kept.take(alloc)?, clause, clauses)?;
-    is_complete_walk(alloc, kept, window, clause.tokens.as_slice())
+    // for the proof: a match is far cheaper to check than `?` on what owns so much
+    match RecomputedClauseWindow::closing(alloc, kept.take(alloc)?, clause, clauses) {
+        Ok(window) => is_complete_walk(alloc, kept, window, clause.tokens.as_slice()),
+        Err(error) => Err(error),
+    }
 }
 
 // Whether each clause has a complete walk of its closing window under all of them.

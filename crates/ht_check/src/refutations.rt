@@ -3,10 +3,10 @@ ghost use Rattle.std.specs.Prelude.{◌≡◌, ◌<◌, ◌↔◌, ℕ, length, 
 ghost use Rattle.ht_tree.specs.Record.Refutations.{Refutes};
 ghost use Rattle.ht_tree.specs.Record.Rising.{Rises};
 
-use crate::window_walks::is_complete_walk;
+use crate::window_walks::{is_complete_walk, take_one_frame};
 use ht_items::Items;
 use ht_net::Fault;
-use ht_recompute::{KeptFrames, RecomputedWindow};
+use ht_recompute::KeptFrames;
 use ht_tree::Token;
 use std::alloc::{AllocError, Global};
 
@@ -30,8 +30,11 @@ pub fn refutes(
     if !names_flip_flops(z, kept.circuit().dffs()) {
         return Ok(false);
     }
-    let window = RecomputedWindow::one_frame(alloc, kept.take(alloc)?, fault, z)?;
-    is_complete_walk(alloc, kept, window, tokens.as_slice())
+    // for the proof: a match is far cheaper to check than `?` on what owns so much
+    match take_one_frame(alloc, kept, fault, z) {
+        Ok(window) => is_complete_walk(alloc, kept, window, tokens.as_slice()),
+        Err(error) => Err(error),
+    }
 }
 
 /// Whether numbers rise and are below a count.

@@ -60,12 +60,15 @@ impl<'c, 's> RecomputedClauseWindow<'c, 's> {
         ensures { IfOk result (λ window. window
             ≡ window_under kept.entry.circuit fault z.now (literals_of_each clauses.now)) }
     {
-        let window = RecomputedWindow::one_frame(alloc, kept, fault, z)?;
-        Ok(RecomputedClauseWindow {
-            window,
-            goal: Goal::Difference,
-            clauses,
-        })
+        // for the proof: a match is far cheaper to check than `?` on what owns so much
+        match RecomputedWindow::one_frame(alloc, kept, fault, z) {
+            Ok(window) => Ok(RecomputedClauseWindow {
+                window,
+                goal: Goal::Difference,
+                clauses,
+            }),
+            Err(error) => Err(error),
+        }
     }
 
     /// The closing window of a clause under clauses.
@@ -84,12 +87,15 @@ impl<'c, 's> RecomputedClauseWindow<'c, 's> {
             ≡ closing_window kept.entry.circuit (literals_of_each clauses.now)
             (literals_of clause.now)) }
     {
-        let window = RecomputedWindow::good(alloc, kept, &[])?;
-        Ok(RecomputedClauseWindow {
-            window,
-            goal: Goal::Breach(clause),
-            clauses,
-        })
+        // for the proof: a match is far cheaper to check than `?` on what owns so much
+        match RecomputedWindow::good(alloc, kept, &[]) {
+            Ok(window) => Ok(RecomputedClauseWindow {
+                window,
+                goal: Goal::Breach(clause),
+                clauses,
+            }),
+            Err(error) => Err(error),
+        }
     }
 }
 

@@ -1,5 +1,5 @@
 //! One frame over sets of pairs.
-ghost use Rattle.std.specs.Prelude.{◌≡◌, ◌≤◌, ◌+◌, ◌*◌, Option, flat_map, length, IfOk};
+ghost use Rattle.std.specs.Prelude.{◌≡◌, ◌≤◌, ◌+◌, ◌*◌, Option, flat_map, length, IfOk, OnOk};
 ghost use Rattle.std.specs.List.{list_all, range_with_len};
 ghost use Rattle.ht_pairs.specs.Pairs.{differs};
 ghost use Rattle.ht_net.specs.declared.fault.Fault.{Fault};
@@ -72,6 +72,16 @@ impl FrameEnds {
     }
 }
 
+// Makes frames until so many are kept, and room for the sets at the ends of one.
+fn frame_room(alloc: Global, kept: &mut KeptFrames, count: u32) -> Result<FrameEnds, AllocError>
+    ensures ends { IfOk result (AreEndsOf kept.old.circuit) }
+    ensures count { OnOk result (count ≤ kept.new.count) }
+    ensures circuit { kept.new.circuit ≡ kept.old.circuit }
+{
+    kept.make(alloc, count)?;
+    FrameEnds::new(alloc, kept.circuit())
+}
+
 impl<'c> FrameSets<'c> {
     /// So many frames of a fault, or of the good machine alone, and one at least: of the frames that are kept those
     /// from `first_kept` on. It makes more of these where there are too few.
@@ -88,13 +98,19 @@ impl<'c> FrameSets<'c> {
         ensures circuit { IfOk result (λ frame. frame.circuit ≡ kept.entry.circuit) }
         ensures fault { IfOk result (λ frame. frame.fault ≡ fault) }
     {
-        kept.make(alloc, first_kept.saturating_add(frames).max(1))?;
-        Ok(FrameSets {
-            fault,
-            ends: FrameEnds::new(alloc, kept.circuit())?,
-            kept,
-            first_kept,
-        })
+        match frame_room(alloc, &mut kept, first_kept.saturating_add(frames).max(1)) {
+            Ok(ends) => Ok(FrameSets {
+                fault,
+                ends,
+                kept,
+                first_kept,
+            }),
+            // for the proof: a drop by name is far cheaper to check than one in place
+            Err(error) => {
+                drop(kept);
+                Err(error)
+            },
+        }
     }
 
     /// Gives the frames back.

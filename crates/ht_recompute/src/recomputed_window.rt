@@ -1,5 +1,5 @@
 //! Windows of every kind, whose frames settle at each node.
-ghost use Rattle.std.specs.Prelude.{◌≡◌, ◌<◌, ℕ, List, length, get_or, true, IfOk};
+ghost use Rattle.std.specs.Prelude.{◌≡◌, ◌<◌, ◌+◌, ◌*◌, ℕ, List, length, get_or, true, IfOk};
 ghost use Rattle.std.specs.List.{All, list_all};
 ghost use Rattle.std.specs.Prelude.{[]};
 ghost use Rattle.ht_tern.specs.declared.tern.Tern.{Tern};
@@ -10,7 +10,7 @@ ghost use Rattle.ht_tree.specs.Window.Variables.{is_latch, may_two};
 ghost use Rattle.ht_tree.specs.Window.Nodes.{may_go_before, window_at};
 ghost use Rattle.ht_tree.specs.Walk.Walks.{path_of};
 ghost use Rattle.ht_tree.specs.Window.WindowStatus.{status_at, without_place};
-ghost use Rattle.ht_tree.specs.Window.Windows.{IsStart, back, back_window, forward_window, one_frame_window, sweep_window};
+ghost use Rattle.ht_tree.specs.Window.Windows.{IsStart, back, back_window, forward_window, one_frame, one_frame_window, sweep_window};
 ghost use Rattle.ht_tree.specs.Clause.Clauses.{literals_of, literals_of_each};
 ghost use Rattle.ht_tree.specs.Clause.ClauseWindows.{breach_status, good_window, under_clauses};
 ghost use Rattle.ht_recompute.specs.WindowStarts.{IsStartOf, window_start};
@@ -24,7 +24,7 @@ use crate::frame_sets::{FrameSets, run_frames};
 use crate::judged_window::JudgedWindow;
 use crate::kept_frames::KeptFrames;
 use crate::window_start::{WindowStart, first_kept, is_faulty_latch, marks_of, states_show};
-use ht_net::Fault;
+use ht_net::{Circuit, Fault};
 use ht_tern::Tern;
 use ht_tree::{Assign3, Clause, Spot, Status3, WalkNode};
 use std::alloc::{AllocError, Global};
@@ -54,6 +54,23 @@ impl<'c, 's> Model for RecomputedWindow<'c, 's> {
     ghost invariant = { HasWindowRoom };
 }
 
+// Room for what a path decides in a window of so many frames, and for the cube of a node.
+fn node_room(
+    alloc: Global,
+    circuit: &Circuit,
+    frames: u32,
+) -> Result<(Vec<Option<Tern>>, Vec<Tern>), AllocError>
+    ensures decisions { IfOk result (λ room. length room.0.items
+        ≡ frames * circuit.now.inputs + 2 * length circuit.now.dffs) }
+    ensures cube { IfOk result (λ room. length room.1.items ≡ length circuit.now.dffs) }
+{
+    let inputs = circuit.inputs() as usize;
+    let dffs = circuit.dffs() as usize;
+    let decisions = vec![in alloc; None; frames as usize * inputs + 2 * dffs]?;
+    let cube = vec![in alloc; Tern::Unk; dffs]?;
+    Ok((decisions, cube))
+}
+
 impl<'c, 's> RecomputedWindow<'c, 's> {
     // Room for a window.
     fn new(
@@ -73,16 +90,77 @@ impl<'c, 's> RecomputedWindow<'c, 's> {
               start = window_start start.entry;
             }) }
     {
-        let inputs = kept.circuit().inputs() as usize;
-        let dffs = kept.circuit().dffs() as usize;
-        let frame = FrameSets::new(alloc, kept, fault, first_kept(&start), frames)?;
-        Ok(RecomputedWindow {
-            frames,
-            start,
-            decisions: vec![in alloc; None; frames as usize * inputs + 2 * dffs]?,
-            cube: vec![in alloc; Tern::Unk; dffs]?,
-            frame,
-        })
+        match FrameSets::new(alloc, kept, fault, first_kept(&start), frames) {
+            Ok(frame) => RecomputedWindow::of_frame(alloc, frame, frames, start),
+            // for the proof: a drop by name is far cheaper to check than one in place
+            Err(error) => {
+                drop(start);
+                Err(error)
+            },
+        }
+    }
+
+    // The window of so many frames from a start, with room for its nodes.
+    fn of_frame(
+        alloc: Global,
+        frame: FrameSets<'c>,
+        frames: u32,
+        start: WindowStart<'s>,
+    ) -> Result<RecomputedWindow<'c, 's>, AllocError>
+        requires fits { IsStart frame.circuit frame.fault frames (window_start start) }
+        requires start { IsStartOf start (length frame.circuit.dffs) }
+        ensures { IfOk result
+            (λ window. window ≡ record {
+              circuit = frame.entry.circuit;
+              fault = frame.entry.fault;
+              frames = frames;
+              start = window_start start.entry;
+            }) }
+    {
+        match node_room(alloc, frame.circuit(), frames) {
+            Ok((decisions, cube)) => Ok(RecomputedWindow {
+                frames,
+                start,
+                decisions,
+                cube,
+                frame,
+            }),
+            // for the proof: a drop by name is far cheaper to check than one in place
+            Err(error) => {
+                drop(frame);
+                drop(start);
+                Err(error)
+            },
+        }
+    }
+
+    // One frame of a fault, or of the good machine alone, from two states that may differ at the flip-flops of z.
+    fn of_set(
+        alloc: Global,
+        kept: KeptFrames<'c>,
+        fault: Option<Fault>,
+        z: &'s [u32],
+    ) -> Result<RecomputedWindow<'c, 's>, AllocError>
+        requires { (i : ℕ) → i < length z.now → get_or z.now i 0 < length kept.circuit.dffs }
+        ensures { IfOk result
+            (λ window. window ≡ record {
+              circuit = kept.entry.circuit;
+              fault = fault;
+              frames = 1;
+              start = one_frame z.now;
+            }) }
+    {
+        match marks_of(alloc, z, kept.circuit().dffs() as usize) {
+            Ok(marks) => {
+                let start = WindowStart::OneFrame { z, marks };
+                RecomputedWindow::new(alloc, kept, fault, 1, start)
+            },
+            // for the proof: a drop by name is far cheaper to check than one in place
+            Err(error) => {
+                drop(kept);
+                Err(error)
+            },
+        }
     }
 
     /// One frame of a fault, from two states that may differ at the flip-flops of z and nowhere else.
@@ -98,9 +176,7 @@ impl<'c, 's> RecomputedWindow<'c, 's> {
         requires { (i : ℕ) → i < length z.now → get_or z.now i 0 < length kept.circuit.dffs }
         ensures { IfOk result (λ window. window ≡ one_frame_window kept.entry.circuit fault z.now) }
     {
-        let marks = marks_of(alloc, z, kept.circuit().dffs() as usize)?;
-        let start = WindowStart::OneFrame { z, marks };
-        RecomputedWindow::new(alloc, kept, Some(fault), 1, start)
+        RecomputedWindow::of_set(alloc, kept, Some(fault), z)
     }
 
     /// One frame of the good machine alone, from any state of bits. The set of flip-flops that it is made with is
@@ -116,9 +192,7 @@ impl<'c, 's> RecomputedWindow<'c, 's> {
         requires { z.now ≡ [] }
         ensures { IfOk result (λ window. window ≡ good_window kept.entry.circuit) }
     {
-        let marks = marks_of(alloc, z, kept.circuit().dffs() as usize)?;
-        let start = WindowStart::OneFrame { z, marks };
-        RecomputedWindow::new(alloc, kept, None, 1, start)
+        RecomputedWindow::of_set(alloc, kept, None, z)
     }
 
     /// So many frames of a fault, from all-unknown.
