@@ -107,12 +107,19 @@ impl<'c> Tools<'c> {
         let first = FirstVectors::new(alloc, circuit.inputs(), settings)?;
         let bases = Bases::new(alloc, circuit)?;
         let start = settings.start.as_slice();
-        let grader = ClassGrader::new_from(alloc, circuit, faults, classes, start)?;
-        Ok(Tools {
-            grader,
-            bases,
-            first,
-        })
+        match ClassGrader::new_from(alloc, circuit, faults, classes, start) {
+            Ok(grader) => Ok(Tools {
+                grader,
+                bases,
+                first,
+            }),
+            Err(error) => {
+                // for the proof: a drop by name is far cheaper to check than one in place
+                drop(bases);
+                drop(first);
+                Err(error)
+            },
+        }
     }
 }
 

@@ -63,15 +63,24 @@ fn close<'c>(
         sought,
         clauses,
     };
-    let outcome = explore_under(alloc, &mut trial, budget)?;
+    let explored = explore_under(alloc, &mut trial, budget);
     let ClauseTrial {
         mut window,
         sought: _,
         clauses: _,
     } = trial;
     window.undo_to(0);
-    let tokens = closing_tokens(outcome);
-    Ok(Closing { window, tokens })
+    match explored {
+        Ok(outcome) => Ok(Closing {
+            window,
+            tokens: closing_tokens(outcome),
+        }),
+        Err(error) => {
+            // for the proof: a drop by name is far cheaper to check than one in place
+            drop(window);
+            Err(error)
+        },
+    }
 }
 
 // Gives clause i its walk, in place of the one of the round before.

@@ -4,7 +4,7 @@ ghost use Rattle.ht_tree.specs.Clause.ClauseWindows.{good_window};
 ghost use Rattle.ht_tree.specs.Clause.Invariants.{IsInvariant};
 ghost use Rattle.ht_invariant.specs.Trials.{knows_each};
 ghost use Rattle.ht_invariant.specs.ClosingRounds.{AreClosingRounds};
-ghost use Rattle.ht_invariant.specs.FoundClauses.{FindsClauses};
+ghost use Rattle.ht_invariant.specs.FoundClauses.{FindsClauses, first_clauses};
 
 use crate::candidates::kept_candidates;
 use crate::closing::closing_round;
@@ -46,6 +46,8 @@ fn close_clauses(
         let after = closing_round(alloc, current, clauses, budget)?;
         current = after;
         if clauses.len() == count {
+            // for the proof: a drop by name is far cheaper to check than one in place
+            drop(current);
             return Ok(());
         }
     }
@@ -61,8 +63,28 @@ fn closing_base<'c>(alloc: Global, circuit: &'c Circuit) -> Result<Window<'c>, A
     let marks = no_marks(alloc, circuit.dffs() as usize)?;
     let z = Items::from_vec(marks);
     let mut bases = Bases::new(alloc, circuit)?;
-    let window = bases.window(alloc, None, 1, &Start::OneFrame { z })?;
-    Ok(window)
+    let window = bases.window(alloc, None, 1, &Start::OneFrame { z });
+    // for the proof: a drop by name is far cheaper to check than one in place
+    drop(bases);
+    window
+}
+
+// The clauses with which the rounds begin.
+fn first_clauses(
+    alloc: Global,
+    circuit: &Circuit,
+    state: &[bool],
+) -> Result<Vec<Clause>, AllocError>
+    requires { length state.now ≡ length circuit.now.dffs }
+    ensures { IfOk result (λ clauses. clauses.items ≡ first_clauses circuit.now state.now) }
+{
+    // for the proof: the circuit is well formed
+    let _ = circuit.nets();
+    let states = tried_states(alloc, circuit, state)?;
+    let clauses = kept_candidates(alloc, state, &states);
+    // for the proof: a drop by name is far cheaper to check than one in place
+    drop(states);
+    clauses
 }
 
 /// Finds clauses on the latches that hold in every run of the good machine from a state, which has a bit for each
@@ -91,8 +113,7 @@ pub fn find(
 {
     // for the proof: the circuit is well formed
     let _ = circuit.nets();
-    let states = tried_states(alloc, circuit, state)?;
-    let mut clauses = kept_candidates(alloc, state, &states)?;
+    let mut clauses = first_clauses(alloc, circuit, state)?;
     let window = closing_base(alloc, circuit)?;
     close_clauses(alloc, window, &mut clauses, budget)?;
     let state = Items::from_slice(alloc, state)?;

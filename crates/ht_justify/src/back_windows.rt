@@ -14,6 +14,7 @@ use ht_tern::Tern;
 use ht_window::{Bases, Start, Window, vector};
 use std::alloc::{AllocError, Global};
 use std::marker::Model;
+use std::mem;
 
 /// The windows of a search back. Each of them is under the one before it.
 #[derive(Drop)]
@@ -62,6 +63,23 @@ pub fn back_window<'c>(
     bases.window(alloc, None, 1, &start)
 }
 
+// The back window of a cube, of which a copy is made.
+fn first_window<'c>(
+    alloc: Global,
+    bases: &mut Bases<'c>,
+    cube: &[Tern],
+    limit: u32,
+) -> Result<Window<'c>, AllocError>
+    requires { length cube.now ≡ length bases.old.circuit.dffs }
+    ensures circuit { bases.new.circuit ≡ bases.old.circuit }
+    ensures window { IfOk result
+        (λ w. w.window ≡ back_window bases.old.circuit cube.now limit) }
+    ensures decisions { IfOk result (λ w. w.decisions ≡ []) }
+{
+    let copy = Items::from_slice(alloc, cube)?;
+    back_window(alloc, bases, copy, limit)
+}
+
 impl<'c, 's> BackWindows<'c, 's> {
     /// The first window alone, before its first decision.
     ///
@@ -82,23 +100,37 @@ impl<'c, 's> BackWindows<'c, 's> {
     {
         let circuit = bases.circuit();
         let mut bases = bases;
-        let window = back_window(alloc, &mut bases, Items::from_slice(alloc, cube)?, limit)?;
-        Ok(BackWindows {
-            alloc,
-            circuit,
-            bases,
-            cube,
-            limit,
-            above: Vec::new(alloc),
-            window,
-        })
+        match first_window(alloc, &mut bases, cube, limit) {
+            Ok(window) => Ok(BackWindows {
+                alloc,
+                circuit,
+                bases,
+                cube,
+                limit,
+                above: Vec::new(alloc),
+                window,
+            }),
+            Err(error) => {
+                // for the proof: a drop by name is far cheaper to check than one in place
+                drop(bases);
+                Err(error)
+            },
+        }
     }
 
     /// The bases, for other windows of the circuit.
     pub fn into_bases(self) -> Bases<'c>
         ensures { result.circuit ≡ self.entry.first.circuit }
     {
-        let BackWindows { bases, .. } = self;
+        let BackWindows {
+            bases,
+            above,
+            window,
+            ..
+        } = self;
+        // for the proof: a drop by name is far cheaper to check than one in place
+        drop(above);
+        drop(window);
         bases
     }
 
@@ -132,7 +164,8 @@ pub fn go_back<'c>(above: &mut Vec<Window<'c>>, window: &mut Window<'c>, point: 
 {
     while above.len() > point.level as usize {
         match above.pop() {
-            Some(last) => *window = last,
+            // for the proof: a drop by name is far cheaper to check than one in place
+            Some(last) => drop(mem::replace(window, last)),
             None => return,
         }
     }

@@ -178,7 +178,14 @@ impl<'c> ClassGrader<'c> {
     pub fn into_verdicts(self) -> Vec<Option<Place>>
         ensures { result.items ≡ self.entry.places }
     {
-        self.places
+        let ClassGrader {
+            places,
+            machines,
+            ..
+        } = self;
+        // for the proof: a drop by name is far cheaper to check than one in place
+        drop(machines);
+        places
     }
 
     /// What each flip-flop of the good machine holds after the vectors so far.

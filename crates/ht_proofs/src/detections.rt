@@ -35,8 +35,14 @@ pub fn first_detections_from(
     ensures within { IfOk result (λ places. AreWithin circuit.now list.now.list places.items) }
 {
     let mut grader = ClassGrader::new_from(alloc, circuit, faults, classes, start)?;
-    grader.apply(list)?;
-    Ok(grader.into_verdicts())
+    match grader.apply(list) {
+        Ok(()) => Ok(grader.into_verdicts()),
+        Err(error) => {
+            // for the proof: a drop by name is far cheaper to check than one in place
+            drop(grader);
+            Err(error)
+        },
+    }
 }
 
 /// The same from all-unknown.

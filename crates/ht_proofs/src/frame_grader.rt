@@ -163,8 +163,14 @@ impl<'c> FrameGrader<'c> {
         ensures { IfOk result (λ frame. frame.group.circuit ≡ circuit.now) }
     {
         let batch = Batch::new(alloc, circuit)?;
-        let stems = Stems::new(alloc, circuit, batch.good_values())?;
-        Ok(FrameGrader { batch, stems })
+        match Stems::new(alloc, circuit, batch.good_values()) {
+            Ok(stems) => Ok(FrameGrader { batch, stems }),
+            Err(error) => {
+                // for the proof: a drop by name is far cheaper to check than one in place
+                drop(batch);
+                Err(error)
+            },
+        }
     }
 
     /// Begins a frame with the good machine, each of whose gates is evaluated once.

@@ -101,6 +101,27 @@ fn grades_at_start(alloc: Global, count: usize) -> Result<Vec<Grade>, AllocError
     Ok(grades)
 }
 
+// What a grader keeps of its faults.
+#[derive(Drop)]
+struct Kept {
+    verdicts: Vec<Option<Place>>,
+    undetected: Vec<usize>,
+    grades: Vec<Grade>,
+}
+
+// What is kept of so many faults before the first vector.
+fn kept_at_start(alloc: Global, count: usize) -> Result<Kept, AllocError>
+    ensures verdicts { IfOk result (λ kept. kept.verdicts.items ≡ replicate count None) }
+    ensures undetected { IfOk result (λ kept. kept.undetected.items ≡ range_with_len 0 count) }
+    ensures grades { IfOk result (λ kept. kept.grades.items ≡ replicate count no_grade) }
+{
+    Ok(Kept {
+        verdicts: verdicts_at_start(alloc, count)?,
+        undetected: all_numbers(alloc, count)?,
+        grades: grades_at_start(alloc, count)?,
+    })
+}
+
 // Writes the verdicts that a frame gave to faults that had none.
 fn write_verdicts(undetected: &[usize], grades: &[Grade], verdicts: &mut [Option<Place>])
     requires each { length verdicts.old ≡ length grades.now }
@@ -128,6 +149,18 @@ fn drop_detected(verdicts: &[Option<Place>], numbers: &mut Vec<usize>)
     ensures { numbers.new.items ≡ filter (is_undetected verdicts.now) numbers.old.items }
 {
     numbers.retain(|k| is_undetected(verdicts, *k));
+}
+
+// Writes the verdicts that a frame gave to faults that had none, and leaves the numbers of those without one.
+fn note_verdicts(grades: &[Grade], verdicts: &mut [Option<Place>], undetected: &mut Vec<usize>)
+    requires each { length verdicts.old ≡ length grades.now }
+    requires undetected { undetected.old.items ≡ undetected_of verdicts.old }
+    requires kept { KeepsVerdicts verdicts.old grades.now }
+    ensures verdicts { verdicts.new ≡ verdicts_of grades.now }
+    ensures undetected { undetected.new.items ≡ undetected_of (verdicts_of grades.now) }
+{
+    write_verdicts(undetected, grades, verdicts);
+    drop_detected(verdicts, undetected);
 }
 
 impl<'c> Grader<'c> {
@@ -173,17 +206,15 @@ impl<'c> Grader<'c> {
     {
         let faults = choose(alloc, faults, which)?;
         let latches = Vec::from_slice(alloc, start)?;
-        let verdicts = verdicts_at_start(alloc, faults.len())?;
-        let undetected = all_numbers(alloc, faults.len())?;
-        let grades = grades_at_start(alloc, faults.len())?;
+        let kept = kept_at_start(alloc, faults.len())?;
         let frame = FrameGrader::new(alloc, circuit)?;
         Ok(Grader {
             faults,
             count: 0,
             latches,
-            verdicts,
-            undetected,
-            grades,
+            verdicts: kept.verdicts,
+            undetected: kept.undetected,
+            grades: kept.grades,
             frame,
             live: true,
         })
@@ -224,8 +255,7 @@ impl<'c> Grader<'c> {
         self.frame
             .grade_faults(faults, undetected, self.count, &mut self.grades, steps)?;
         self.frame.read_latches(&mut self.latches);
-        write_verdicts(&self.undetected, &self.grades, &mut self.verdicts);
-        drop_detected(&self.verdicts, &mut self.undetected);
+        note_verdicts(&self.grades, &mut self.verdicts, &mut self.undetected);
         self.count += 1;
         self.live = true;
         Ok(())

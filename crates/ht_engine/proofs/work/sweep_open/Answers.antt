@@ -2,10 +2,10 @@ use Rattle.std.proofs.Common.{◌+◌, ◌-◌, [], length}
 use Rattle.ht_net.proofs.MoreToldLaws.{detects_from_any}
 use Rattle.ht_engine.proofs.work.sweep_open.Goals as goal
 
-pub returns-in-Found-clause-holds : goal.returns-in-Found-clause-holds
-returns-in-Found-clause-holds c =
-    let list = c.in-Found.list in
-    let h = rw c.in-Found.is at c.in_ok-list.ensures.holds in
+pub returns-in-Ok-Found-clause-holds : goal.returns-in-Ok-Found-clause-holds
+returns-in-Ok-Found-clause-holds c =
+    let list = c.in-Ok-Found.list in
+    let h = rw c.in-Ok-Found.field-0-is at c.in-Ok-Found.ensures.holds in
     record {
       wide = h.vectors.wide;
       width = h.vectors.width;

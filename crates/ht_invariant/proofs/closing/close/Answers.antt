@@ -8,12 +8,12 @@ use Rattle.ht_invariant.specs.Trials.{clause_window}
 use Rattle.ht_invariant.specs.ClosingRounds.{closing_guide}
 use Rattle.ht_invariant.proofs.closing.close.Goals as goal
 
-pub returns-clause-answer : goal.returns-clause-answer
-returns-clause-answer c =
+pub returns-in-Ok-clause-answer : goal.returns-in-Ok-clause-answer
+returns-in-Ok-clause-answer c =
     let k = c.args.clause.now in
-    c.closing_tokens-tokens.ensures (closing_guide c.args.window.window.circuit c.args.clauses.now k) c.args.budget
-    c.explore_under.new.trial.window.decisions
+    let path = c.explore_under-explored.new.trial.window.decisions in
+    c.closing_tokens.ensures (closing_guide c.args.window.window.circuit c.args.clauses.now k) c.args.budget path
     (subst (λ (w : SearchWindow). IsOutcome
     (guide_under (clause_window w (Breach k.first k.second) c.args.clauses.now)) c.args.budget 1
-    (node_at c.explore_under.new.trial.window.decisions) c.in_ok-outcome.outcome) c.requires.good
-    c.in_ok-outcome.ensures.outcome)
+    (node_at path) c.in-Ok.outcome) c.requires.good
+    (rw c.in-Ok.is at c.explore_under-explored.ensures.outcome))

@@ -1,28 +1,17 @@
-use Rattle.std.proofs.Common.{◌≡◌, ◌∙◌, List, Bool, ap, sym, subst}
+use Rattle.std.proofs.Common.{◌≡◌, ◌∙◌, List, ap, sym, subst}
 use Rattle.ht_net.specs.Circuit.Netlist.{Netlist}
 use Rattle.ht_tree.specs.Window.Windows.{SearchWindow}
 use Rattle.ht_tree.specs.declared.clause.Clause.{Clause}
 use Rattle.ht_invariant.specs.Trials.{knows_each}
 use Rattle.ht_invariant.specs.ClosingRounds.{AreClosingRounds}
-use Rattle.ht_invariant.specs.FoundClauses.{FindsClauses, candidates_of, first_clauses, is_met_by_each}
-use Rattle.std.specs.Prelude.{take, filter}
-use Rattle.ht_tree.specs.Clause.Invariants.{max_clauses}
+use Rattle.ht_invariant.specs.FoundClauses.{FindsClauses, first_clauses}
 use Rattle.ht_invariant.proofs.FindLaws.{first_known, found_invariant}
 use Rattle.ht_invariant.proofs.finding.find.Goals as goal
-use Rattle.ht_invariant.proofs.finding.find.Goals.{In_ok-window}
-
--- the clauses with which the rounds begin
-first : (c : In_ok-window) → c.in_ok-clauses.clauses.items ≡ first_clauses c.args.circuit.now c.args.state.now
-first c =
-    c.in_ok-clauses.ensures
-    ∙ ap (λ (states : List (List Bool)). take max_clauses (filter (is_met_by_each states)
-    (candidates_of c.args.state.now)))
-    c.in_ok-states.ensures
 
 pub close_clauses-requires-clause-known : goal.close_clauses-requires-clause-known
 close_clauses-requires-clause-known c =
     let circuit = ap (λ (w : SearchWindow). w.circuit) c.in_ok-window.ensures.window in
-    let is = first (goal.at.close_clauses-requires-clause-known c).In_ok-window in
+    let is = c.in_ok-clauses.ensures in
     (λ k. knows_each (circuit k) (is k)) ∙ first_known c.args.circuit.now c.args.state.now c.requires
 
 pub returns-clause-holds : goal.returns-clause-holds
@@ -30,7 +19,7 @@ returns-clause-holds c =
     let n = c.args.circuit.now in
     let b = c.args.budget in
     let circuit = ap (λ (w : SearchWindow). w.circuit) c.in_ok-window.ensures.window in
-    let is = first (goal.at.returns-clause-holds c).In_ok-window in
+    let is = c.in_ok-clauses.ensures in
     let h = c.in_ok-close_clauses.ensures in
     let old = c.in_ok-clauses.clauses.items in
     let new = c.close_clauses.new.clauses.items in

@@ -33,7 +33,7 @@ loop-above-preserved c =
     let i = c.loop-above.invariant in
     let v = c.loop-above.above in
     let test = c.loop-above-test.true in
-    record {
+    rw c.replace.ensures.after (record {
       back =
           sym (window_leaves (decisions_of rest) (decisions_of all) last.decisions c.loop-above.window.decisions
           c.args.point (decisions_push rest all last c.in-Some.ensures.items) (omega (arith, n, test)))
@@ -42,7 +42,7 @@ loop-above-preserved c =
       under = λ circuit cube limit h. under_last circuit cube limit rest all last c.loop-above.window
           c.in-Some.ensures.items (i.under circuit cube limit h);
       few = let f = i.few in omega (arith, k, f);
-    }
+    })
 
 pub undo_to-requires : goal.undo_to-requires
 undo_to-requires c =

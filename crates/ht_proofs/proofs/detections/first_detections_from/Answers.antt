@@ -4,22 +4,22 @@ use Rattle.ht_net.specs.Circuit.Netlist.{Netlist}
 use Rattle.ht_proofs.specs.Detections.{AreFirstDetections, AreWithin}
 use Rattle.ht_proofs.proofs.detections.first_detections_from.Goals as goal
 
-pub returns-clause-first : goal.returns-clause-first
-returns-clause-first c =
+pub returns-in-Ok-clause-first : goal.returns-in-Ok-clause-first
+returns-in-Ok-clause-first c =
     let list = c.args.list.now.list in
     let start = c.args.start.now in
     let grader = c.apply.new.self in
-    let stands = c.in_ok-apply.ensures.added start [] c.in_ok-grader.ensures.stands in
+    let stands = c.in-Ok.ensures.added start [] c.in_ok-grader.ensures.stands in
     subst (AreFirstDetections c.args.circuit.now c.args.classes.now start list) (sym c.into_verdicts.ensures)
     (subst (λ (n : Netlist). AreFirstDetections n c.args.classes.now start list grader.places)
-    (c.in_ok-apply.ensures.same.0 ∙ c.in_ok-grader.ensures.circuit)
+    (c.in-Ok.ensures.same.0 ∙ c.in_ok-grader.ensures.circuit)
     (subst (λ (l : List ℕ). AreFirstDetections grader.machines.circuit l start list grader.places)
-    (c.in_ok-apply.ensures.same.1 ∙ c.in_ok-grader.ensures.classes) stands.first))
+    (c.in-Ok.ensures.same.1 ∙ c.in_ok-grader.ensures.classes) stands.first))
 
-pub returns-clause-within : goal.returns-clause-within
-returns-clause-within c =
+pub returns-in-Ok-clause-within : goal.returns-in-Ok-clause-within
+returns-in-Ok-clause-within c =
     let list = c.args.list.now.list in
-    let stands = c.in_ok-apply.ensures.added c.args.start.now [] c.in_ok-grader.ensures.stands in
+    let stands = c.in-Ok.ensures.added c.args.start.now [] c.in_ok-grader.ensures.stands in
     subst (λ (l : List (Option Place)). AreWithin c.args.circuit.now list l) (sym c.into_verdicts.ensures)
     (subst (λ (n : Netlist). AreWithin n list c.apply.new.self.places)
-    (c.in_ok-apply.ensures.same.0 ∙ c.in_ok-grader.ensures.circuit) stands.within)
+    (c.in-Ok.ensures.same.0 ∙ c.in_ok-grader.ensures.circuit) stands.within)

@@ -9,13 +9,13 @@ pub new_from-requires-clause-latches : goal.new_from-requires-clause-latches
 new_from-requires-clause-latches c =
     ap (λ (s : List Tern). length s) c.as_slice-start.ensures ∙ c.requires.latches
 
-pub returns-clause-stands : goal.returns-clause-stands
-returns-clause-stands c =
-    subst (λ (start : List Tern). ClassGraderStandsFor c.in_ok-grader.grader start [])
-    c.as_slice-start.ensures c.in_ok-grader.ensures.stands
+pub returns-in-Ok-clause-stands : goal.returns-in-Ok-clause-stands
+returns-in-Ok-clause-stands c =
+    subst (λ (start : List Tern). ClassGraderStandsFor c.in-Ok.grader start [])
+    c.as_slice-start.ensures c.in-Ok.ensures.stands
 
-pub returns-clause-width : goal.returns-clause-width
-returns-clause-width c = c.in_ok-first.ensures.width ∙ c.inputs.ensures
+pub returns-in-Ok-clause-width : goal.returns-in-Ok-clause-width
+returns-in-Ok-clause-width c = c.in_ok-first.ensures.width ∙ c.inputs.ensures
 
-pub returns-clause-rest : goal.returns-clause-rest
-returns-clause-rest c = rw c.inputs.ensures at c.in_ok-first.ensures.rest
+pub returns-in-Ok-clause-rest : goal.returns-in-Ok-clause-rest
+returns-in-Ok-clause-rest c = rw c.inputs.ensures at c.in_ok-first.ensures.rest

@@ -1,5 +1,4 @@
 use Rattle.std.proofs.Common.{◌≡◌, ◌+◌, ◌∙◌, [], true, List, Option, length, rules, refl, sym, ap, subst, arith}
-use Rattle.std.specs.List.{filter}
 use Rattle.std.specs.Vec.{with_items}
 use Rattle.std.proofs.lemmas.List.{with_items_is}
 use Rattle.ht_tern.specs.declared.tern.Tern.{Tern}
@@ -13,9 +12,9 @@ use Rattle.ht_proofs.specs.Applied.{IsApplied}
 use Rattle.ht_proofs.specs.Batches.{IsGradedFrame}
 use Rattle.ht_proofs.specs.LaneGrades.{grade_at}
 use Rattle.ht_proofs.specs.PackedOf.{packed_of}
-use Rattle.ht_proofs.specs.Undetected.{is_undetected, undetected_of, verdicts_of}
+use Rattle.ht_proofs.specs.Undetected.{undetected_of, verdicts_of}
 use Rattle.ht_proofs.proofs.PackedLaws.{HasRun, grades_by, is_applied, run_fields, steps_within}
-use Rattle.ht_proofs.proofs.UndetectedLaws.{kept_after, left_after, listed_known}
+use Rattle.ht_proofs.proofs.UndetectedLaws.{kept_after, listed_known}
 use Rattle.ht_proofs.proofs.VectorLaws.{applied_stands}
 use Rattle.ht_proofs.proofs.grader.Grader.apply.Goals as goal
 
@@ -27,7 +26,7 @@ abbrev after : goal.After-self-6-1 → PackedView
 after c =
     grades_by c.grade_faults.new.self.group.circuit c.self.inside.faults.items (c.self.inside.count + 1)
     (with_items c.self.inside.latches c.read_latches.new.latches).items
-    (with_items c.self.inside.verdicts c.write_verdicts.new.verdicts).items (graded c) true
+    (with_items c.self.inside.verdicts c.note_verdicts.new.verdicts).items (graded c) true
 
 graded_is : (c : goal.After-self-6-1) → graded c ≡ c.grade_faults.new.grades
 graded_is c = with_items_is c.self.inside.grades c.grade_faults.new.grades (search rules)
@@ -41,8 +40,8 @@ has_run c =
     let long : length c.grade_faults.new.grades ≡ length a.grades.items = search rules in
     let latches = with_items_is a.latches c.read_latches.new.latches (search rules)
     ∙ (c.read_latches.ensures ∙ c.in_ok-grade_faults.ensures.good) in
-    let verdicts = with_items_is a.verdicts c.write_verdicts.new.verdicts (search rules)
-    ∙ (c.write_verdicts.ensures ∙ ap verdicts_of c.deref-5.ensures.value) in
+    let verdicts = with_items_is a.verdicts c.note_verdicts.new.verdicts (search rules)
+    ∙ (c.note_verdicts.ensures.verdicts ∙ ap verdicts_of c.deref-4.ensures.value) in
     let circuit = c.grade_faults.ensures.circuit ∙ ap (λ (g : GroupView). g.circuit) c.start.ensures.group in
     record {
       frame_is = c.start.ensures.group ∙ ap (λ (l : List Tern). record {
@@ -91,43 +90,36 @@ pub invariant_of-self-2 : goal.invariant_of-self-2
 invariant_of-self-2 c =
     let few : c.self.inside.count ≡ c.args.self.now.count = ap (λ (g : PackedView). g.count) c.self.view_is in
     let a = c.self.inside in
-    let run = has_run c in
-    let live : a.live ≡ true = search rules in
-    let kept = kept_after a.verdicts.items a.grades.items (graded c) (c.self.invariant.same live) run.all.kept in
-    let copied = c.deref-6.ensures.value ∙ with_items_is a.verdicts c.write_verdicts.new.verdicts (search rules)
-    ∙ (c.write_verdicts.ensures ∙ ap verdicts_of c.deref-5.ensures.value) in
-    let listed = left_after a.verdicts.items (graded c) a.undetected.items c.drop_detected.new.numbers.items
-    (omega (arith, c.self.invariant.verdict_count, c.self.invariant.grade_count, run.long)) c.self.invariant.listed
-    kept (c.drop_detected.ensures ∙ ap (λ (l : List (Option Place)). filter (is_undetected l) a.undetected.items)
-    copied)
-    in
     run_fields (packed_of a) a.grades.items c.args.vector.now c.start.new.self.group (after c) (graded c)
-    a.undetected.items c.drop_detected.new.numbers.items run c.self.invariant (omega (arith, few, c.requires.few))
+    a.undetected.items c.note_verdicts.new.undetected.items (has_run c) c.self.invariant
+    (omega (arith, few, c.requires.few))
     (λ k. subst (λ (l : List Grade). AreLatches c.start.new.self.group.circuit (grade_at l k).diffs)
-    (sym (graded_is c)) (c.in_ok-grade_faults.ensures.known k)) listed
+    (sym (graded_is c)) (c.in_ok-grade_faults.ensures.known k))
+    (c.note_verdicts.ensures.undetected
+    ∙ ap (λ (l : List Grade). undetected_of (verdicts_of l)) c.deref-4.ensures.value)
 
-pub write_verdicts-requires-clause-known : goal.write_verdicts-requires-clause-known
-write_verdicts-requires-clause-known c =
-    let a = c.self.inside in
-    let long : length c.grade_faults.new.grades ≡ length a.grades.items = search rules in
-    let graded = c.deref-5.ensures.value ∙ with_items_is a.grades c.grade_faults.new.grades (search rules) in
-    listed_known a.verdicts.items c.deref-4.result.now (length c.deref-5.result.now)
-    (c.deref-4.ensures.value ∙ c.self.invariant.listed) (omega (
-      arith,
-      c.self.invariant.verdict_count,
-      c.self.invariant.grade_count,
-      long,
-      ap (λ (l : List Grade). length l) graded,
-    ))
-
-pub write_verdicts-requires-clause-kept : goal.write_verdicts-requires-clause-kept
-write_verdicts-requires-clause-kept c =
+pub note_verdicts-requires : goal.note_verdicts-requires
+note_verdicts-requires c =
     let a = c.self.inside in
     let live : a.live ≡ true = search rules in
-    let graded = c.deref-5.ensures.value ∙ with_items_is a.grades c.grade_faults.new.grades (search rules) in
-    kept_after c.deref_mut-3.result.now c.deref_mut.result.now c.deref-5.result.now
-    (c.deref_mut-3.ensures.value ∙ (c.self.invariant.same live ∙ ap verdicts_of (sym c.deref_mut.ensures.value)))
-    (λ j p found. ap (λ (l : List Grade). grade_at l j) graded ∙ c.in_ok-grade_faults.ensures.passed.kept j p found)
+    let long : length c.grade_faults.new.grades ≡ length a.grades.items = search rules in
+    let graded = c.deref-4.ensures.value ∙ with_items_is a.grades c.grade_faults.new.grades (search rules) in
+    let verdicts = c.deref_mut-3.ensures.value in
+    record {
+      each = omega (
+        arith,
+        c.self.invariant.verdict_count,
+        c.self.invariant.grade_count,
+        long,
+        ap (λ (l : List Grade). length l) graded,
+        ap (λ (l : List (Option Place)). length l) verdicts,
+      );
+      undetected = c.self.invariant.listed ∙ ap undetected_of (sym verdicts);
+      kept = kept_after c.deref_mut-3.result.now c.deref_mut.result.now c.deref-4.result.now
+          (verdicts ∙ (c.self.invariant.same live ∙ ap verdicts_of (sym c.deref_mut.ensures.value)))
+          (λ j p found. ap (λ (l : List Grade). grade_at l j) graded
+          ∙ c.in_ok-grade_faults.ensures.passed.kept j p found);
+    }
 
 pub grade_faults-requires-clause-undetected : goal.grade_faults-requires-clause-undetected
 grade_faults-requires-clause-undetected c =

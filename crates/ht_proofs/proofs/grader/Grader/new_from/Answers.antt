@@ -7,25 +7,24 @@ use Rattle.ht_proofs.proofs.grader.Grader.new_from.Goals as goal
 
 pub invariant_of-result : goal.invariant_of-result
 invariant_of-result c =
-    let verdicts : c.in_ok-verdicts.verdicts.items ≡ replicate (length c.in_ok-faults.faults.items) None =
-    search rules in
-    let undetected : c.in_ok-undetected.undetected.items ≡ range_with_len 0 (length c.in_ok-faults.faults.items) =
-    search rules in
-    let grades : c.in_ok-grades.grades.items ≡ replicate (length c.in_ok-faults.faults.items) no_grade = search rules in
+    let faults = c.in_ok-faults.faults.items in
+    let kept = c.in_ok-kept.kept in
+    let verdicts : kept.verdicts.items ≡ replicate (length faults) None = search rules in
+    let undetected : kept.undetected.items ≡ range_with_len 0 (length faults) = search rules in
+    let grades : kept.grades.items ≡ replicate (length faults) no_grade = search rules in
     start_fields c.args.circuit.now c.in_ok-frame.frame.group.circuit c.args.start.now c.args.faults.now
-    c.args.which.now
-    c.in_ok-faults.faults.items c.in_ok-latches.latches.items c.in_ok-verdicts.verdicts.items
-    c.in_ok-undetected.undetected.items c.in_ok-grades.grades.items c.requires.faults c.requires.known
-    c.in_ok-frame.ensures c.requires.latches c.in_ok-faults.ensures c.in_ok-latches.ensures.items verdicts undetected
-    grades
+    c.args.which.now faults c.in_ok-latches.latches.items kept.verdicts.items kept.undetected.items kept.grades.items
+    c.requires.faults c.requires.known c.in_ok-frame.ensures c.requires.latches c.in_ok-faults.ensures
+    c.in_ok-latches.ensures.items verdicts undetected grades
 
 pub returns-clause-start : goal.returns-clause-start
 returns-clause-start c =
-    let verdicts : c.in_ok-verdicts.verdicts.items ≡ replicate (length c.in_ok-faults.faults.items) None =
-    search rules in
-    let grades : c.in_ok-grades.grades.items ≡ replicate (length c.in_ok-faults.faults.items) no_grade = search rules in
-    start_view c.args.circuit.now c.in_ok-frame.frame.group.circuit c.args.start.now c.in_ok-faults.faults.items
-    c.in_ok-latches.latches.items c.in_ok-verdicts.verdicts.items c.in_ok-grades.grades.items c.in_ok-frame.ensures
+    let faults = c.in_ok-faults.faults.items in
+    let kept = c.in_ok-kept.kept in
+    let verdicts : kept.verdicts.items ≡ replicate (length faults) None = search rules in
+    let grades : kept.grades.items ≡ replicate (length faults) no_grade = search rules in
+    start_view c.args.circuit.now c.in_ok-frame.frame.group.circuit c.args.start.now faults
+    c.in_ok-latches.latches.items kept.verdicts.items kept.grades.items c.in_ok-frame.ensures
     c.in_ok-latches.ensures.items verdicts grades
     ∙ ap (grades_at_start c.args.circuit.now c.args.start.now) c.in_ok-faults.ensures
 
