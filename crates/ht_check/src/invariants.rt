@@ -47,11 +47,8 @@ fn is_closed(
         (λ closed. IsTrue closed ↔ IsClosedUnder kept.old.circuit clauses.now clause.now) }
     ensures circuit { kept.new.circuit ≡ kept.old.circuit }
 {
-    // for the proof: a match is far cheaper to check than `?` on what owns so much
-    match RecomputedClauseWindow::closing(alloc, kept.take(alloc)?, clause, clauses) {
-        Ok(window) => is_complete_walk(alloc, kept, window, clause.tokens.as_slice()),
-        Err(error) => Err(error),
-    }
+    let window = RecomputedClauseWindow::closing(alloc, kept.take(alloc)?, clause, clauses)?;
+    is_complete_walk(alloc, kept, window, clause.tokens.as_slice())
 }
 
 // Whether each clause has a complete walk of its closing window under all of them.
