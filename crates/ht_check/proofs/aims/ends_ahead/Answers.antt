@@ -12,13 +12,13 @@ pub forward-requires-clause-faulty : goal.forward-requires-clause-faulty
 forward-requires-clause-faulty c =
     c.requires.faulty ∙ ap (λ (k : KeptState). length k.circuit.dffs) (sym c.in_ok-frames.ensures.taken)
 
-pub returns-in-Ok-clause-ends : goal.returns-in-Ok-clause-ends
-returns-in-Ok-clause-ends c =
+pub returns-clause-ends : goal.returns-clause-ends
+returns-clause-ends c =
     let good = c.args.good.now in
     let faulty = c.args.faulty.now in
     let n = c.args.kept.now.circuit in
-    let window : c.in-Ok.window ≡ forward_window n c.args.fault forward_frames good faulty =
-    c.in-Ok.ensures
+    let window : c.in_ok-window.window ≡ forward_window n c.args.fault forward_frames good faulty =
+    c.in_ok-window.ensures
     ∙ (λ i. forward_window (c.in_ok-frames.ensures.taken i).circuit c.args.fault forward_frames good faulty) in
     subst (λ (w : SearchWindow). IfOk c.ends_as.result
     (λ ends. IsTrue ends ↔ EndsAs w c.args.ended.budget c.args.ended.end c.args.ended.tokens.now))
