@@ -1,9 +1,5 @@
 //! Refutations from one named state: an invariant of the state, and a refutation as long as its clauses are met.
-ghost use Rattle.std.specs.Prelude.{◌≡◌, ◌↔◌, ◌<◌, ℕ, length, get_or, IfOk, IsTrue};
-ghost use Rattle.std.specs.List.{All};
-ghost use Rattle.ht_tree.specs.Walk.Walks.{IsComplete};
-ghost use Rattle.ht_tree.specs.Clause.Clauses.{IsClause, literals_of_each};
-ghost use Rattle.ht_tree.specs.Clause.ClauseWindows.{judge_under, window_under};
+ghost use Rattle.std.specs.Prelude.{◌≡◌, ◌↔◌, IfOk, IsTrue};
 ghost use Rattle.ht_tree.specs.Record.RefutationsFrom.{RefutesFrom};
 
 use crate::invariants::is_invariant;
@@ -41,28 +37,6 @@ pub fn refutes_from(
     if !is_invariant(alloc, kept, state.as_slice(), clauses)? {
         return Ok(false);
     }
-    is_walk_under(alloc, kept, fault, z, clauses, tokens.as_slice())
-}
-
-// Whether tokens are a complete walk of the one-frame window of a fault and a set of flip-flops under clauses.
-fn is_walk_under(
-    alloc: Global,
-    kept: &mut KeptFrames,
-    fault: Fault,
-    z: &[u32],
-    clauses: &[Clause],
-    tokens: &[Token],
-) -> Result<bool, AllocError>
-    requires z { (i : ℕ) → i < length z.now → get_or z.now i 0 < length kept.old.circuit.dffs }
-    requires clauses { All (IsClause kept.old.circuit) clauses.now }
-    ensures complete { IfOk result (λ complete. IsTrue complete
-        ↔ IsComplete (judge_under (window_under kept.old.circuit fault z.now
-        (literals_of_each clauses.now))) tokens.now) }
-    ensures circuit { kept.new.circuit ≡ kept.old.circuit }
-{
-    // for the proof: a match is far cheaper to check than `?` on what owns so much
-    match RecomputedClauseWindow::one_frame(alloc, kept.take(alloc)?, fault, z, clauses) {
-        Ok(window) => is_complete_walk(alloc, kept, window, tokens),
-        Err(error) => Err(error),
-    }
+    let window = RecomputedClauseWindow::one_frame(alloc, kept.take(alloc)?, fault, z, clauses)?;
+    is_complete_walk(alloc, kept, window, tokens.as_slice())
 }
