@@ -368,17 +368,26 @@ here_inside {s} {x} h w =
 abbrev pub fresh : ℕ → ℕ → DistanceState
 fresh nets frames = record { frames = frames; distance = 0; numbers = replicate nets frames; here = []; next = [] }
 
--- where no net has a number nothing is to be followed, whatever the way
-pub fresh_followed : (c : Netlist) (way : Way) (nets frames : ℕ) (s : DistanceState) → s ≡ fresh nets frames
+fresh_followed : (c : Netlist) (way : Way) (nets frames : ℕ) (s : DistanceState) → s ≡ fresh nets frames
     → AreFollowed c way 0 s
 fresh_followed c way nets frames s e =
     subst (AreFollowed c way 0) (sym e) (none_followed c way 0 (fresh nets frames) (none_numbered frames nets))
 
--- what was followed still is, or is to be, after numbers have grown in two steps
-pub twice_followed : {s t u : DistanceState} (c : Netlist) (way : Way) → HasGrown s t → HasGrown t u
-    → AreFollowed c way 0 s → AreFollowed c way 0 u
-twice_followed {s} {t} {u} c way one two h =
-    grown_followed c way 0 t u two (grown_followed c way 0 s t one h)
+-- Numbers that were put first, in two steps, where no net had one.
+pub record AreFirst (n : ℕ) (s t : DistanceState) : Type 0 where
+  pub followed : (c : Netlist) (way : Way) → AreFollowed c way 0 t
+  pub zero : s.distance ≡ 0
+  pub frames : t.frames ≡ n
+
+-- numbers put in two steps, where no net had one, are first numbers, of distance 0
+pub first_put : {frames : ℕ} {none s t : DistanceState} (nets : ℕ) → none ≡ fresh nets frames → HasGrown none s
+    → HasGrown s t → AreFirst frames s t
+first_put {frames} {none} {s} {t} nets e one two = record {
+  followed = λ c way.
+      grown_followed c way 0 s t two (grown_followed c way 0 none s one (fresh_followed c way nets frames none e));
+  zero = one.distance ∙ ap (λ (d : DistanceState). d.distance) e;
+  frames = two.lower.frames ∙ (one.lower.frames ∙ ap (λ (d : DistanceState). d.frames) e);
+}
 
 -- what is spread is, under another name of the circuit and of the number of frames
 pub spread_under : {c m : Netlist} {way : Way} {frames most : ℕ} {number : ℕ → ℕ} → c ≡ m → frames ≡ most

@@ -2,8 +2,7 @@
 ghost use Rattle.std.specs.Prelude.{◌≡◌, ◌<◌, ◌≤◌, ◌+◌, ℕ, true, false, Some, length, get_or, IfOk, IfSome, OnOk};
 ghost use Rattle.ht_net.specs.Circuit.Netlist.{net_count};
 ghost use Rattle.ht_tree.specs.Window.Windows.{SearchWindow};
-ghost use Rattle.ht_relevant.specs.declared.way.Way.TheVariants.{Readers};
-ghost use Rattle.ht_relevant.specs.Distances.{AreFollowed, HasGrown, IsLower, number_of};
+ghost use Rattle.ht_relevant.specs.Distances.{HasGrown, number_of};
 ghost use Rattle.ht_relevant.specs.Near.{has_come};
 ghost use Rattle.ht_relevant.specs.Reached.{IsReach, leads_to, may_begin_apart};
 
@@ -64,31 +63,6 @@ fn begin_latches(circuit: &Circuit, apart: &[bool], away: &mut Distances) -> Res
     Ok(())
 }
 
-// A difference begins at the line of a fault and at the latches that are marked, and comes to what reads it, and so on.
-// So each net gets a number to which it may come. What has one before is followed.
-fn follow_differences(
-    frame_plan: &FramePlan,
-    fault: Fault,
-    apart: &[bool],
-    away: &mut Distances,
-) -> Result<(), AllocError>
-    requires count { length away.old.numbers ≡ net_count frame_plan.now.circuit }
-    requires first { away.old.distance ≡ 0 }
-    requires followed { AreFollowed frame_plan.now.circuit Readers 0 away.old }
-    ensures lower { OnOk result (IsLower away.old away.new) }
-    ensures reach { OnOk result ((w : SearchWindow) → w.circuit ≡ frame_plan.now.circuit
-        → w.fault ≡ Some fault → w.frames ≡ away.old.frames
-        → ((j : ℕ) → j < length w.circuit.dffs → may_begin_apart w.start j ≡ true
-        → get_or apart.now j false ≡ true)
-        → IsReach w (has_come (number_of away.new))) }
-{
-    let circuit = frame_plan.circuit();
-    begin_line(circuit, fault.site, away)?;
-    begin_latches(circuit, apart, away)?;
-    spread(frame_plan, Way::Readers, away)?;
-    Ok(())
-}
-
 /// How many frames a fault needs at the least to reach each net of so many frames, where the latches of the first frame
 /// that are marked may differ too.
 ///
@@ -112,13 +86,10 @@ pub fn find_away(
         → get_or apart.now j false ≡ true)
         → IsReach w (has_come (number_of away))) }
 {
-    let mut away = Distances::new(alloc, frame_plan.circuit().nets(), frames)?;
-    match follow_differences(frame_plan, fault, apart, &mut away) {
-        Ok(()) => Ok(away),
-        Err(error) => {
-            // for the proof: a drop by name is far cheaper to check than one in place
-            drop(away);
-            Err(error)
-        },
-    }
+    let circuit = frame_plan.circuit();
+    let mut away = Distances::new(alloc, circuit.nets(), frames)?;
+    begin_line(circuit, fault.site, &mut away)?;
+    begin_latches(circuit, apart, &mut away)?;
+    spread(frame_plan, Way::Readers, &mut away)?;
+    Ok(away)
 }

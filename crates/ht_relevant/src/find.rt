@@ -3,10 +3,9 @@ ghost use Rattle.std.specs.Prelude.{◌≡◌, ◌<◌, ◌≤◌, ◌⊎◌, �
 ghost use Rattle.ht_net.specs.Circuit.Netlist.{net_count, no_net};
 ghost use Rattle.ht_net.specs.Frames.Faults.{is_data_pin};
 ghost use Rattle.ht_tree.specs.Window.Windows.{IsWindow, SearchWindow};
-ghost use Rattle.ht_relevant.specs.declared.way.Way.TheVariants.{Drivers};
-ghost use Rattle.ht_relevant.specs.Distances.{AreFollowed, HasGrown, number_of};
-ghost use Rattle.ht_relevant.specs.Near.{has_come, matters};
-ghost use Rattle.ht_relevant.specs.Reached.{IsReach, may_begin_apart};
+ghost use Rattle.ht_relevant.specs.Distances.{HasGrown, number_of};
+ghost use Rattle.ht_relevant.specs.Near.{matters};
+ghost use Rattle.ht_relevant.specs.Reached.{may_begin_apart};
 ghost use Rattle.ht_relevant.specs.Relevant.{IsRelevant, counts_state};
 
 use crate::away::find_away;
@@ -91,69 +90,6 @@ fn put_states(
     Ok(())
 }
 
-// The places in reach are read, and what their drivers read, and so on back: each such net gets a number. What has one
-// before is followed.
-fn follow_places(
-    frame_plan: &FramePlan,
-    fault: Fault,
-    counted: &[bool],
-    away: &Distances,
-    near: &mut Distances,
-) -> Result<(), AllocError>
-    requires reach { length away.now.numbers ≡ net_count frame_plan.now.circuit }
-    requires count { length near.old.numbers ≡ net_count frame_plan.now.circuit }
-    requires first { near.old.distance ≡ 0 }
-    requires followed { AreFollowed frame_plan.now.circuit Drivers 0 near.old }
-    ensures { OnOk result ((w : SearchWindow) → IsWindow w
-        → w.circuit ≡ frame_plan.now.circuit → w.fault ≡ Some fault → 0 < w.frames
-        → w.frames ≡ near.old.frames → w.frames ≡ away.now.frames
-        → IsReach w (has_come (number_of away.now))
-        → ((j : ℕ) → j < length w.circuit.dffs → counts_state w.start j ≡ true
-        → get_or counted.now j false ≡ true)
-        → IsRelevant w (matters (record { frames = near.old.frames; near = near.new.numbers }))) }
-{
-    let circuit = frame_plan.circuit();
-    put_outputs(circuit, away, near)?;
-    put_states(circuit, fault.site, counted, away, near)?;
-    spread(frame_plan, Way::Drivers, near)?;
-    Ok(())
-}
-
-// The nets that matter, where it is known how many frames away each net is.
-fn find_near(
-    alloc: Global,
-    frame_plan: &FramePlan,
-    frames: u32,
-    fault: Fault,
-    counted: &[bool],
-    away: &Distances,
-) -> Result<Relevant, AllocError>
-    requires some { 0 < frames }
-    requires few { frames ≤ MAX_FRAMES }
-    requires reach { length away.now.numbers ≡ net_count frame_plan.now.circuit }
-    requires frames { away.now.frames ≡ frames }
-    ensures frames { IfOk result (λ r. r.frames ≡ frames) }
-    ensures relevant { IfOk result (λ r. (w : SearchWindow) → IsWindow w
-        → w.circuit ≡ frame_plan.now.circuit → w.fault ≡ Some fault → w.frames ≡ frames
-        → IsReach w (has_come (number_of away.now))
-        → ((j : ℕ) → j < length w.circuit.dffs → counts_state w.start j ≡ true
-        → get_or counted.now j false ≡ true)
-        → IsRelevant w (matters r)) }
-{
-    let mut near = Distances::new(alloc, frame_plan.circuit().nets(), frames)?;
-    match follow_places(frame_plan, fault, counted, away, &mut near) {
-        Ok(()) => Ok(Relevant {
-            frames,
-            near: near.into_numbers(),
-        }),
-        Err(error) => {
-            // for the proof: a drop by name is far cheaper to check than one in place
-            drop(near);
-            Err(error)
-        },
-    }
-}
-
 /// The nets that matter in so many frames of a circuit in which a fault is looked for: those that are read at the places
 /// that it can reach. The latches of the first frame that are marked in `apart` may differ too, and the next states count
 /// of the flip-flops that are marked in `counted`.
@@ -179,9 +115,14 @@ pub fn find_relevant(
         → get_or counted.now j false ≡ true)
         → IsRelevant w (matters r)) }
 {
+    let circuit = frame_plan.circuit();
     let away = find_away(alloc, frame_plan, frames, fault, apart)?;
-    let relevant = find_near(alloc, frame_plan, frames, fault, counted, &away);
-    // for the proof: a drop by name is far cheaper to check than one in place
-    drop(away);
-    relevant
+    let mut near = Distances::new(alloc, circuit.nets(), frames)?;
+    put_outputs(circuit, &away, &mut near)?;
+    put_states(circuit, fault.site, counted, &away, &mut near)?;
+    spread(frame_plan, Way::Drivers, &mut near)?;
+    Ok(Relevant {
+        frames,
+        near: near.into_numbers(),
+    })
 }
