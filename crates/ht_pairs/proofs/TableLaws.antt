@@ -1,5 +1,5 @@
 -- What the tables of the operations and of the polarities hold, tried at all 512 numbers.
-use Rattle.std.proofs.Common.{◌≡◌, ◌<◌, ℕ, Bool, true, false, List, [], get_or, refl, bit_and}
+use Rattle.std.proofs.Common.{◌≡◌, ◌<◌, ℕ, Bool, true, false, ◌&&◌, List, [], get_or, refl, bit_and}
 use Rattle.ht_tern.specs.declared.tern.Tern.{Tern}
 use Rattle.ht_pairs.specs.Pairs.{Pair, same_pair, pair_operations}
 use Rattle.ht_tern.specs.Gate.{operation_of, polarity_of}
@@ -10,7 +10,7 @@ use Rattle.ht_pairs.specs.Words.{part_of, union_of}
 use Rattle.ht_pairs.specs.Moves.{along, becomes, lowers, raises, blurs, complements, passes, flips}
 use Rattle.ht_pairs.specs.declared.moves.Half.TheVariants.{Good, Faulty}
 use Rattle.ht_pairs.specs.declared.tables.TheConstants.{FIRST, SECOND, POLARITIES}
-use Rattle.ht_pairs.proofs.MetLaws.{AreMoved, IsValid, IsMet-union_of, by_any, followed}
+use Rattle.ht_pairs.proofs.MetLaws.{AreMoved, IsValid, IsMet-union_of, by_any}
 use Rattle.ht_pairs.proofs.MoveLaws.{IsTried, tried}
 use Rattle.ht_pairs.proofs.OperationLaws.{IsResultOfOne, IsResultOfTwo, by_move, by_table, table}
 
@@ -29,20 +29,20 @@ HasResults op place = (s t : ℕ) → IsValid s → IsValid t
 
 -- a part of each set's word
 abbrev part : List ℕ → ℕ → ℕ → ℕ
-part row i n = part_of i (get_or row n 0)
+part words i n = part_of i (get_or words n 0)
 
 -- each of the four parts of a row's words is where a move leads
 abbrev AreTried : List ℕ → (a b c d : Pair → Pair → Bool) → Type 0
-AreTried row a b c d =
-    IsTried (part row 0) a × IsTried (part row 1) b × IsTried (part row 2) c × IsTried (part row 3) d
+AreTried words a b c d =
+    IsTried (part words 0) a × IsTried (part words 1) b × IsTried (part words 2) c × IsTried (part words 3) d
 
-are_moved : (row : List ℕ) (a b c d : Pair → Pair → Bool) → AreTried row a b c d → (n : ℕ) → n < 512
-    → AreMoved a b c d n (get_or row n 0)
-are_moved row a b c d passed n h = (
-  tried (part row 0) a passed.0 n h,
-  tried (part row 1) b passed.1 n h,
-  tried (part row 2) c passed.2 n h,
-  tried (part row 3) d passed.3 n h,
+are_moved : (words : List ℕ) (a b c d : Pair → Pair → Bool) → AreTried words a b c d → (n : ℕ) → n < 512
+    → AreMoved a b c d n (get_or words n 0)
+are_moved words a b c d passed n h = (
+  tried (part words 0) a passed.0 n h,
+  tried (part words 1) b passed.1 n h,
+  tried (part words 2) c passed.2 n h,
+  tried (part words 3) d passed.3 n h,
 )
 
 by_parts : (place : ℕ) (op : Pair → Pair → Pair) (a b c d a' b' c' d' : Pair → Pair → Bool)
@@ -53,26 +53,25 @@ by_parts place op a b c d a' b' c' d' tabled one two s t hs ht =
     (IsMet-union_of _ _ (are_moved (row_of FIRST place) a b c d one s hs.1)
     (are_moved (row_of SECOND place) a' b' c' d' two t ht.1))
 
--- Each half of a result comes from either member, and the other member's is moved to it: f moves the faulty half and g
--- the good one.
-by_halves : (place : ℕ) (op : Pair → Pair → Pair) (f g : Pair → Pair → Bool)
-    → table op (by_any same_pair (followed f g) f g (followed f g) same_pair g f) ≡ true
-    → AreTried (row_of FIRST place) same_pair (followed f g) f g
-    → AreTried (row_of SECOND place) (followed f g) same_pair g f → HasResults op place
-by_halves place op f g tabled one two =
-    by_parts place op same_pair (followed f g) f g (followed f g) same_pair g f tabled one two
+-- one move of the faulty half, and one of the good half
+abbrev both : (Tern → Tern → Bool) → (Tern → Tern → Bool) → Pair → Pair → Bool
+both f g p q = f p.faulty q.faulty && g p.good q.good
+
+-- each half of a result comes from either member, and the other member's is moved to it
+by_halves : (place : ℕ) (op : Pair → Pair → Pair) (f : Tern → Tern → Bool)
+    → table op (by_any same_pair (both f f) (along Faulty f) (along Good f)
+    (both f f) same_pair (along Good f) (along Faulty f)) ≡ true
+    → AreTried (row_of FIRST place) same_pair (both f f) (along Faulty f) (along Good f)
+    → AreTried (row_of SECOND place) (both f f) same_pair (along Good f) (along Faulty f) → HasResults op place
+by_halves place op f tabled one two =
+    by_parts place op same_pair (both f f) (along Faulty f) (along Good f)
+    (both f f) same_pair (along Good f) (along Faulty f) tabled one two
 
 and_results : HasResults pair_operations.conjunction 0
-and_results =
-    by_halves 0 _ (along Faulty lowers) (along Good lowers) refl (refl, refl, refl, refl) (refl, refl, refl, refl)
+and_results = by_halves 0 _ lowers refl (refl, refl, refl, refl) (refl, refl, refl, refl)
 
 or_results : HasResults pair_operations.disjunction 1
-or_results =
-    by_halves 1 _ (along Faulty raises) (along Good raises) refl (refl, refl, refl, refl) (refl, refl, refl, refl)
-
--- one move of the faulty half, and then one of the good half
-abbrev both : (Tern → Tern → Bool) → (Tern → Tern → Bool) → Pair → Pair → Bool
-both f g = followed (along Faulty f) (along Good g)
+or_results = by_halves 1 _ raises refl (refl, refl, refl, refl) (refl, refl, refl, refl)
 
 -- each half of the first member passes or flips the second's
 xor_results : HasResults pair_operations.parity 2

@@ -3,7 +3,7 @@
 //! The results of an operation are the union of four meets, each of a part of the first set and a part of the second: a
 //! part has the pairs to which a move leads. So a step of a gate is two look-ups, and the same code whatever its kind: a
 //! jump by the kind would be guessed wrong every second time. The four parts stand in one word, 16 bits each, so that one
-//! AND makes all four meets: `gen` takes some 5 percent less time than with each part by itself. What a kind makes of the
+//! AND makes all four meets: `gen` takes some 12 percent less time than with each part by itself. What a kind makes of the
 //! folded set is looked up for the same reason.
 //!
 //! A set is three digits of eight, one for each good half, X, 1 and 0; the digit has the faulty halves, 4 for X, 2 for 1
