@@ -1,5 +1,5 @@
 use Rattle.std.proofs.Common.{arith}
-use Rattle.std.proofs.lemmas.Grind.{common_steps}
+use Rattle.std.proofs.lemmas.Grind.{common_steps, elements}
 use Rattle.ht_bench.proofs.MentionLaws.{name_stays}
 use Rattle.ht_bench.proofs.NameListLaws.{with_names-long}
 use Rattle.ht_bench.proofs.add_line.add_gate.Goals as goal
@@ -17,3 +17,9 @@ pub returns-clause-accepts : goal.returns-clause-accepts
 returns-clause-accepts c =
     let out = name_stays c.in_ok-arg_ids.ensures.mentions _ c.in_ok-out_id.ensures.found.number.0 in
     (grind (arith, common_steps), grind (arith, common_steps))
+
+pub mention_all-requires : goal.mention_all-requires
+mention_all-requires c = grind (arith, elements)
+
+pub gate-requires-clause-few : goal.gate-requires-clause-few
+gate-requires-clause-few c = grind (arith, elements)

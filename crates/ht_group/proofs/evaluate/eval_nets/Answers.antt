@@ -1,3 +1,4 @@
+use Rattle.std.proofs.lemmas.Grind.{common_steps, elements}
 use Rattle.std.proofs.Common.{◌≡◌, ◌∙◌, ◌-◌, ap, arith, length, get_or, take, drop, List, ℕ}
 use Rattle.std.proofs.lemmas.List.{get_or_read}
 use Rattle.ht_tern.specs.Gate.{operation_of, polarity_of}
@@ -23,3 +24,15 @@ loop-arg-preserved c blank =
     (λ v. operation_of lane_operations c.args.kind c.loop-arg.word v)
     (read ∙ ap (λ (n : ℕ). env_of blank c.args.words.now n) net)))
     ∙ c.loop-arg.invariant blank
+
+pub loop-arg-init : goal.loop-arg-init
+loop-arg-init c = grind (arith, elements)
+
+pub offset_bounds-words-index-in-loop-arg : goal.offset_bounds-words-index-in-loop-arg
+offset_bounds-words-index-in-loop-arg c = grind (arith, elements)
+
+pub bounds-words-index-in-loop-arg : goal.bounds-words-index-in-loop-arg
+bounds-words-index-in-loop-arg c = grind (arith, elements)
+
+pub returns : goal.returns
+returns c = grind (arith, common_steps)

@@ -1,3 +1,4 @@
+use Rattle.std.proofs.lemmas.Grind.{common_steps, elements}
 use Rattle.std.proofs.Common.{◌≡◌, ◌∙◌, ◌++◌, List, ap, arith, length}
 use Rattle.std.proofs.lemmas.List.{with_items_is}
 use Rattle.ht_pairs.specs.Pairs.{Pair}
@@ -49,3 +50,12 @@ loop-frame-preserved c =
           ∙ ap (λ (t : List (List Pair)). l.sets.items ++ t) (c.deref.ensures.value ∙ row))
           wide r.ensures.row i.sets;
     }
+
+pub overflow_mul-frames : goal.overflow_mul-frames
+overflow_mul-frames c = grind (arith, elements)
+
+pub returns-in_err-sets-clause-count : goal.returns-in_err-sets-clause-count
+returns-in_err-sets-clause-count c = grind (arith, common_steps)
+
+pub write_latches-requires : goal.write_latches-requires
+write_latches-requires c = grind (arith, common_steps)

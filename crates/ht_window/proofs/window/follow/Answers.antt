@@ -1,3 +1,4 @@
+use Rattle.std.proofs.lemmas.Grind.{common_steps, elements}
 use Rattle.std.proofs.Common.{◌≡◌, ◌∙◌, ℕ, List, ap, sym, arith, subst}
 use Rattle.ht_pairs.specs.Pairs.{Pair}
 use Rattle.ht_net.specs.Circuit.Netlist.{Netlist}
@@ -69,3 +70,18 @@ returns-clause-cells c =
     follow_cells a c.push.new.self c.write.new.self d known.window known.count c.requires.closed c.requires.cells
     (omega (arith, n)) p.window p.relevant p.cells p.ok f x v.frame v.net q.standing q.relevant q.values r s.keeps
     (settled_all b c.settle.new.self w c.write.new.self r s.plan circuit frames quiet s.agree s.none)
+
+pub returns-in_err-push-clause-before : goal.returns-in_err-push-clause-before
+returns-in_err-push-clause-before c = grind (arith, elements)
+
+pub returns-in_err-write-clause-before : goal.returns-in_err-write-clause-before
+returns-in_err-write-clause-before c = grind (arith, common_steps)
+
+pub returns-in_err-settle-clause-before : goal.returns-in_err-settle-clause-before
+returns-in_err-settle-clause-before c = grind (arith, common_steps)
+
+pub returns-clause-before : goal.returns-clause-before
+returns-clause-before c = grind (arith, common_steps)
+
+pub returns-clause-trail : goal.returns-clause-trail
+returns-clause-trail c = grind (arith, elements)

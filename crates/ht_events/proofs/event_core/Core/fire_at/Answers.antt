@@ -1,4 +1,5 @@
-use Rattle.std.proofs.Common.{◌≢◌, ◌<◌, inl, inr, ℕ, Ok, sym, ap, subst}
+use Rattle.std.proofs.lemmas.Grind.{elements}
+use Rattle.std.proofs.Common.{◌≢◌, ◌<◌, inl, inr, ℕ, Ok, sym, ap, subst, arith}
 use Rattle.std.proofs.lemmas.Bool.{cases_Bool}
 use Rattle.std.proofs.lemmas.Bool.Decides.{eqb_tells}
 use Rattle.ht_net.specs.Circuit.Netlist.{Netlist}
@@ -34,3 +35,6 @@ returns-clause-agree g c = λ agreed x here quiet.
             | inr same ↦ e.loads (ap Ok same) x inside old
           ]
     ]
+
+pub finish-requires-clause-stands : goal.finish-requires-clause-stands
+finish-requires-clause-stands g c = grind (arith, elements)

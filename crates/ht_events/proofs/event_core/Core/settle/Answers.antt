@@ -1,3 +1,4 @@
+use Rattle.std.proofs.lemmas.Grind.{elements}
 use Rattle.std.proofs.Common.{◌≡◌, ◌<◌, ◌+◌, ℕ, sym, subst, ap, ◌∙◌, arith}
 use Rattle.ht_events.specs.Items.{item_at, item_count}
 use Rattle.ht_events.specs.Plans.{PlanState, StandsAt, position_at}
@@ -56,3 +57,12 @@ returns-in_err-fire_at-clause-spent g c =
 pub returns-clause-spent : goal.returns-clause-spent
 returns-clause-spent g c =
     spends_most _ _ _ c.loop-position.from _ c.loop-position.invariant.spent c.loop-position.invariant.inside
+
+pub next_mark-requires : goal.next_mark-requires
+next_mark-requires g c = grind (arith, elements)
+
+pub returns-clause-agree : goal.returns-clause-agree
+returns-clause-agree g c = grind (arith, elements)
+
+pub returns-clause-none : goal.returns-clause-none
+returns-clause-none g c = grind (arith, elements)

@@ -1,3 +1,4 @@
+use Rattle.std.proofs.lemmas.Grind.{common_steps}
 use Rattle.std.proofs.Common.{◌≡◌, ◌∙◌, ◌+◌, ◌-◌, ℕ, List, ap, get_or, arith, length, subst, take, drop}
 use Rattle.ht_net.specs.Circuit.Netlist.{Netlist, first_gate_net, net_count}
 use Rattle.ht_pairs.specs.Decided.{same_pairs}
@@ -72,3 +73,9 @@ returns-clause-value c =
     (λ y ys. ap (λ (t : List (List Pair)). get_or t y blank) is ∙ row_cells w s.cells.values c.args.frame y ys)
     (c.gate_output.ensures ∙
     (λ i. gate_output (circuit i) (pair_set_rules (fault i)) (env_of blank row) (c.args.net - first i)))
+
+pub slice_bounds-row-end : goal.slice_bounds-row-end
+slice_bounds-row-end c = grind (arith, common_steps)
+
+pub invariant_of-self : goal.invariant_of-self
+invariant_of-self c = grind (arith, common_steps)

@@ -1,4 +1,5 @@
-use Rattle.std.proofs.Common.{◌++◌, ◌∷◌, [], ◌∙◌, Option, ap, sym, subst, ℕ}
+use Rattle.std.proofs.lemmas.Grind.{common_steps, elements}
+use Rattle.std.proofs.Common.{◌++◌, ◌∷◌, [], ◌∙◌, Option, ap, sym, subst, ℕ, arith}
 use Rattle.ht_tree.specs.declared.token.Assign3.{Assign3}
 use Rattle.ht_tree.specs.Window.Windows.{SearchWindow}
 use Rattle.ht_events.specs.Plans.{PlanState}
@@ -39,3 +40,9 @@ invariant_of-self-in-Ok c =
           f.path (c.in_ok-push.ensures.items ∙ ap (λ (m : ℕ). a.marks.items ++ m ∷ []) c.mark-mark.ensures) f.later
           f.trail f.cells i.history));
     }
+
+pub undo-requires-clause-count : goal.undo-requires-clause-count
+undo-requires-clause-count c = grind (arith, elements)
+
+pub undo-requires-clause-mark : goal.undo-requires-clause-mark
+undo-requires-clause-mark c = grind (arith, common_steps)
