@@ -60,7 +60,7 @@ pub fn entry(
 {
     let mut kept = KeptFrames::new(alloc, circuit)?;
     let passes = entry_by_frames(alloc, &mut kept, start, fault, budget, entry);
-    // for the proof: a drop by name is far cheaper to check than one in place
+    // for the proof: dropped by name
     drop(kept);
     passes
 }

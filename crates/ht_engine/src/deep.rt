@@ -88,7 +88,7 @@ fn work_open(
     match close(alloc, bases.circuit(), fault, settings.start.as_slice()) {
         Ok(None) => search_open(alloc, bases, fault, settings, told, walk, states),
         Ok(Some(rows)) => {
-            // for the proof: a drop by name is far cheaper to check than one in place
+            // for the proof: dropped by name
             drop(told);
             drop(walk);
             drop(states);
@@ -127,7 +127,7 @@ fn search_open(
     match search_list(alloc, bases, fault, settings.budget, told, walk) {
         Ok(Work::Entry(entry)) => sweep_on(alloc, bases, fault, settings.budget, states, entry),
         Ok(Work::List(list)) => {
-            // for the proof: a drop by name is far cheaper to check than one in place
+            // for the proof: dropped by name
             drop(states);
             Ok(Work::List(list))
         },
@@ -179,7 +179,7 @@ fn sweep_on(
     match sweep_on_from_bases(alloc, bases, fault, states, budget) {
         Ok(Swept::Spent { walks: _ }) => Ok(Work::Entry(entry)),
         Ok(Swept::Found { list }) => {
-            // for the proof: a drop by name is far cheaper to check than one in place
+            // for the proof: dropped by name
             drop(entry);
             Ok(Work::List(list))
         },

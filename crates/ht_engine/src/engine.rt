@@ -114,7 +114,7 @@ impl<'c> Tools<'c> {
                 first,
             }),
             Err(error) => {
-                // for the proof: a drop by name is far cheaper to check than one in place
+                // for the proof: dropped by name
                 drop(bases);
                 drop(first);
                 Err(error)

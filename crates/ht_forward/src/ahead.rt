@@ -53,7 +53,7 @@ pub fn search_ahead(
 {
     let mut trial = begin(alloc, bases, fault, frames, start)?;
     let ahead = search_trial(alloc, &mut trial, frames, budget);
-    // for the proof: a drop by name is far cheaper to check than one in place
+    // for the proof: dropped by name
     drop(trial);
     ahead
 }

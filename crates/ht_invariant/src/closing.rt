@@ -76,7 +76,7 @@ fn close<'c>(
             tokens: closing_tokens(outcome),
         }),
         Err(error) => {
-            // for the proof: a drop by name is far cheaper to check than one in place
+            // for the proof: dropped by name
             drop(window);
             Err(error)
         },

@@ -46,7 +46,7 @@ fn close_clauses(
         let after = closing_round(alloc, current, clauses, budget)?;
         current = after;
         if clauses.len() == count {
-            // for the proof: a drop by name is far cheaper to check than one in place
+            // for the proof: dropped by name
             drop(current);
             return Ok(());
         }
@@ -64,7 +64,7 @@ fn closing_base<'c>(alloc: Global, circuit: &'c Circuit) -> Result<Window<'c>, A
     let z = Items::from_vec(marks);
     let mut bases = Bases::new(alloc, circuit)?;
     let window = bases.window(alloc, None, 1, &Start::OneFrame { z });
-    // for the proof: a drop by name is far cheaper to check than one in place
+    // for the proof: dropped by name
     drop(bases);
     window
 }
@@ -82,7 +82,7 @@ fn first_clauses(
     let _ = circuit.nets();
     let states = tried_states(alloc, circuit, state)?;
     let clauses = kept_candidates(alloc, state, &states);
-    // for the proof: a drop by name is far cheaper to check than one in place
+    // for the proof: dropped by name
     drop(states);
     clauses
 }

@@ -83,7 +83,7 @@ fn search_under(
         clauses,
     };
     let round = search_trial(alloc, &mut trial, budget);
-    // for the proof: a drop by name is far cheaper to check than one in place
+    // for the proof: dropped by name
     drop(trial);
     round
 }
@@ -117,7 +117,7 @@ pub fn refute_from(
     let mut bases = Bases::new(alloc, circuit)?;
     let clauses = invariant.clauses.as_slice();
     let answer = refute_under(alloc, &mut bases, fault, clauses, budget);
-    // for the proof: a drop by name is far cheaper to check than one in place
+    // for the proof: dropped by name
     drop(bases);
     answer
 }

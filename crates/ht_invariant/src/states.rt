@@ -142,7 +142,7 @@ pub fn tried_states(
 {
     let mut machine = BoolMachine::start_from(alloc, circuit, None, state)?;
     let states = run_states(alloc, circuit, &mut machine, state);
-    // for the proof: a drop by name is far cheaper to check than one in place
+    // for the proof: dropped by name
     drop(machine);
     states
 }

@@ -111,7 +111,7 @@ impl<'c, 's> BackWindows<'c, 's> {
                 window,
             }),
             Err(error) => {
-                // for the proof: a drop by name is far cheaper to check than one in place
+                // for the proof: dropped by name
                 drop(bases);
                 Err(error)
             },
@@ -128,7 +128,7 @@ impl<'c, 's> BackWindows<'c, 's> {
             window,
             ..
         } = self;
-        // for the proof: a drop by name is far cheaper to check than one in place
+        // for the proof: dropped by name
         drop(above);
         drop(window);
         bases
@@ -164,7 +164,7 @@ pub fn go_back<'c>(above: &mut Vec<Window<'c>>, window: &mut Window<'c>, point: 
 {
     while above.len() > point.level as usize {
         match above.pop() {
-            // for the proof: a drop by name is far cheaper to check than one in place
+            // for the proof: dropped by name
             Some(last) => drop(mem::replace(window, last)),
             None => return,
         }

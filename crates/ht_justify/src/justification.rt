@@ -99,7 +99,7 @@ pub fn justify(
 {
     let mut bases = Bases::new(alloc, circuit)?;
     let back = justify_from_bases(alloc, &mut bases, cube, limit, budget);
-    // for the proof: a drop by name is far cheaper to check than one in place
+    // for the proof: dropped by name
     drop(bases);
     back
 }

@@ -47,7 +47,7 @@ pub fn one_frame_window<'c>(
     let z = Items::from_slice(alloc, marks)?;
     let start = Start::OneFrame { z };
     let window = bases.window(alloc, Some(fault), 1, &start);
-    // for the proof: a drop by name is far cheaper to check than one in place
+    // for the proof: dropped by name
     drop(start);
     window
 }
@@ -111,7 +111,7 @@ pub fn search_one_frame(
     let window = one_frame_window(alloc, bases, fault, marks)?;
     let mut trial = Trial { window };
     let round = search_trial(alloc, &mut trial, budget);
-    // for the proof: a drop by name is far cheaper to check than one in place
+    // for the proof: dropped by name
     drop(trial);
     round
 }

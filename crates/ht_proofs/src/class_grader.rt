@@ -183,7 +183,7 @@ impl<'c> ClassGrader<'c> {
             machines,
             ..
         } = self;
-        // for the proof: a drop by name is far cheaper to check than one in place
+        // for the proof: dropped by name
         drop(machines);
         places
     }

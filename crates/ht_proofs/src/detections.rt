@@ -38,7 +38,7 @@ pub fn first_detections_from(
     match grader.apply(list) {
         Ok(()) => Ok(grader.into_verdicts()),
         Err(error) => {
-            // for the proof: a drop by name is far cheaper to check than one in place
+            // for the proof: dropped by name
             drop(grader);
             Err(error)
         },

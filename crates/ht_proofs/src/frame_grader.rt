@@ -166,7 +166,7 @@ impl<'c> FrameGrader<'c> {
         match Stems::new(alloc, circuit, batch.good_values()) {
             Ok(stems) => Ok(FrameGrader { batch, stems }),
             Err(error) => {
-                // for the proof: a drop by name is far cheaper to check than one in place
+                // for the proof: dropped by name
                 drop(batch);
                 Err(error)
             },

@@ -105,7 +105,7 @@ impl<'c> FrameSets<'c> {
                 kept,
                 first_kept,
             }),
-            // for the proof: a drop by name is far cheaper to check than one in place
+            // for the proof: dropped by name
             Err(error) => {
                 drop(kept);
                 Err(error)

@@ -92,7 +92,7 @@ impl<'c, 's> RecomputedWindow<'c, 's> {
     {
         match FrameSets::new(alloc, kept, fault, first_kept(&start), frames) {
             Ok(frame) => RecomputedWindow::of_frame(alloc, frame, frames, start),
-            // for the proof: a drop by name is far cheaper to check than one in place
+            // for the proof: dropped by name
             Err(error) => {
                 drop(start);
                 Err(error)
@@ -125,7 +125,7 @@ impl<'c, 's> RecomputedWindow<'c, 's> {
                 cube,
                 frame,
             }),
-            // for the proof: a drop by name is far cheaper to check than one in place
+            // for the proof: dropped by name
             Err(error) => {
                 drop(frame);
                 drop(start);
@@ -155,7 +155,7 @@ impl<'c, 's> RecomputedWindow<'c, 's> {
                 let start = WindowStart::OneFrame { z, marks };
                 RecomputedWindow::new(alloc, kept, fault, 1, start)
             },
-            // for the proof: a drop by name is far cheaper to check than one in place
+            // for the proof: dropped by name
             Err(error) => {
                 drop(kept);
                 Err(error)

@@ -37,7 +37,7 @@ impl<'c> LengthSearch for SyncSearch<'c> {
     fn search(&mut self, alloc: Global, frames: u32, budget: u64) -> Result<OneLength, AllocError> {
         let mut trial = begin(alloc, &mut self.bases, frames)?;
         let length = search_trial(alloc, &mut trial, budget);
-        // for the proof: a drop by name is far cheaper to check than one in place
+        // for the proof: dropped by name
         drop(trial);
         length
     }

@@ -159,7 +159,7 @@ pub fn search_net<'c>(
             Ok(Searched { held, out })
         },
         Err(error) => {
-            // for the proof: a drop by name is far cheaper to check than one in place
+            // for the proof: dropped by name
             drop(held);
             Err(error)
         },

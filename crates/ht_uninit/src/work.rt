@@ -75,7 +75,7 @@ fn search_outputs<'c>(
         let next = search_output(alloc, circuit, window, o, budget, &mut outs)?;
         window = next;
     }
-    // for the proof: a drop by name is far cheaper to check than one in place
+    // for the proof: dropped by name
     drop(window);
     Ok(outs)
 }

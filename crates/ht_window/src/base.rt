@@ -74,7 +74,7 @@ impl<'c> Window<'c> {
         match new_core(alloc, frame_plan, held.decisions().frames()) {
             Ok(core) => Ok(Window::undecided(alloc, held, core)),
             Err(error) => {
-                // for the proof: a drop by name is far cheaper to check than one in place
+                // for the proof: dropped by name
                 drop(held);
                 Err(error)
             },
@@ -100,7 +100,7 @@ impl<'c> Window<'c> {
         match all_sets(alloc, &decisions) {
             Ok(sets) => Held::new(alloc, decisions, sets),
             Err(error) => {
-                // for the proof: a drop by name is far cheaper to check than one in place
+                // for the proof: dropped by name
                 drop(decisions);
                 Err(error)
             },
@@ -190,7 +190,7 @@ impl<'c> Window<'c> {
                 Ok(Window::undecided(alloc, held, core))
             },
             Err(error) => {
-                // for the proof: a drop by name is far cheaper to check than one in place
+                // for the proof: dropped by name
                 drop(held);
                 drop(core);
                 Err(error)
@@ -216,7 +216,7 @@ impl<'c> Window<'c> {
         match new_core(alloc, frame_plan, held.decisions().frames()) {
             Ok(core) => Window::settled(alloc, held, core, before),
             Err(error) => {
-                // for the proof: a drop by name is far cheaper to check than one in place
+                // for the proof: dropped by name
                 drop(held);
                 Err(error)
             },
@@ -244,7 +244,7 @@ impl<'c> Window<'c> {
                 Window::settled(alloc, held.under(decisions), core, before)
             },
             Err(error) => {
-                // for the proof: a drop by name is far cheaper to check than one in place
+                // for the proof: dropped by name
                 drop(self);
                 Err(error)
             },
@@ -268,7 +268,7 @@ impl<'c> Window<'c> {
         match restrict(alloc, frame_plan, &mut held) {
             Ok(()) => Window::followed(alloc, frame_plan, held, self.fault()),
             Err(error) => {
-                // for the proof: a drop by name is far cheaper to check than one in place
+                // for the proof: dropped by name
                 drop(held);
                 Err(error)
             },

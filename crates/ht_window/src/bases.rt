@@ -146,7 +146,7 @@ impl<'c> Bases<'c> {
             if base.has_front(setup) {
                 return Ok(base);
             }
-            // for the proof: a drop by name is far cheaper to check than one in place
+            // for the proof: dropped by name
             drop(base);
         }
         self.new_base(alloc, setup)

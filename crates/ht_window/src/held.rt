@@ -89,7 +89,7 @@ impl<'c> Held<'c> {
                 pins,
             }),
             Err(error) => {
-                // for the proof: a drop by name is far cheaper to check than one in place
+                // for the proof: dropped by name
                 drop(decisions);
                 Err(error)
             },
@@ -112,7 +112,7 @@ impl<'c> Held<'c> {
             relevant,
             pins,
         } = self;
-        // for the proof: a drop by name is far cheaper to check than one in place
+        // for the proof: dropped by name
         drop(before);
         drop(relevant);
         Held {

@@ -113,7 +113,7 @@ impl<'c> Window<'c> {
             start,
         };
         let window = Window::with_plan(alloc, &frame_plan, &setup);
-        // for the proof: a drop by name is far cheaper to check than one in place
+        // for the proof: dropped by name
         drop(frame_plan);
         window
     }
