@@ -3,6 +3,8 @@
 //! `create` makes the three files, and `fill` writes them: `sizes` begins the proofs, `steps` writes the engine's steps,
 //! and the report comes last.
 ghost use Rattle.std.specs.Prelude.{◌≡◌, ◌≤◌};
+ghost use Rattle.ht_ports.specs.Desk.{DeskView};
+ghost use Rattle.ht_net.specs.Circuit.Netlist.{IsCircuit};
 ghost use Rattle.ht_net.specs.Detect.Detection.{IsStart};
 ghost use Rattle.ht_faults.specs.Sites.{faults_of};
 ghost use Rattle.ht_faults.specs.Classes.{AreClasses};
@@ -11,6 +13,8 @@ ghost use Rattle.ht_asked.specs.declared.limits.TheConstants.{MAX_BUDGET, MIN_BU
 ghost use Rattle.ht_asked.specs.Ranges.{AreOptions};
 ghost use Rattle.ht_words.specs.Jobs.{asked_by, options_by};
 ghost use Rattle.ht_words.specs.declared.job.Job.TheVariants as job_of;
+ghost use Rattle.ht_inputs.specs.Inputs.{HasNetlist, IsStated, JobBasis};
+ghost use Rattle.ht_inputs.specs.Reading.{HasReadTo};
 ghost use Rattle.ht_app.specs.Generating.{WritesAll};
 ghost use Rattle.ht_app.specs.Outputs.{search_of};
 ghost use Rattle.ht_app.specs.Steps.{EndsJob};
@@ -98,6 +102,31 @@ fn run_engine<D: Desk>(
     )
 }
 
+// Reads the files that the options name, once the netlist is read, generates tests, and writes them, the proofs and the
+// report.
+fn generate_for<D: Desk>(
+    alloc: Global,
+    circuit: &Circuit,
+    files: &RunFiles,
+    options: &GenOptions,
+    desk: &mut D,
+) -> Result<(), RunError>
+    requires circuit { IsCircuit circuit.now }
+    requires netlist { HasNetlist circuit.now }
+    requires options { AreOptions (options_by options.now) }
+    ensures { (first : DeskView) → ((basis : JobBasis) → basis.circuit ≡ circuit.now
+        → IsStated (asked_by (job_of.Gen files.now options.now)) basis
+        → HasReadTo (asked_by (job_of.Gen files.now options.now)) basis 1 first (D.view desk.old))
+        → EndsJob (asked_by (job_of.Gen files.now options.now)) result first (D.view desk.new) }
+{
+    let start = read_stated(alloc, desk, circuit, &options.start)?;
+    let first = read_first(alloc, desk, circuit, &options.first)?;
+    let listed = list_faults(alloc, circuit)?;
+    let chosen = read_chosen(alloc, desk, listed.faults.len(), &options.faults)?;
+    let settings = settings_for(options, start, first, chosen);
+    run_engine(alloc, circuit, &listed, files, &settings, desk)
+}
+
 /// Runs `gen`: reads the netlist and the files that the options name, the start, the first vectors and the list of
 /// faults, generates tests, and writes them, the proofs and the report.
 ///
@@ -114,10 +143,5 @@ pub fn generate<D: Desk>(
         (D.view desk.new) }
 {
     let circuit = read_netlist(alloc, desk, files.netlist.as_str())?;
-    let start = read_stated(alloc, desk, &circuit, &options.start)?;
-    let first = read_first(alloc, desk, &circuit, &options.first)?;
-    let listed = list_faults(alloc, &circuit)?;
-    let chosen = read_chosen(alloc, desk, listed.faults.len(), &options.faults)?;
-    let settings = settings_for(options, start, first, chosen);
-    run_engine(alloc, &circuit, &listed, files, &settings, desk)
+    generate_for(alloc, &circuit, files, options, desk)
 }
