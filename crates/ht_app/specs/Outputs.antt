@@ -37,7 +37,7 @@ use Rattle.ht_inputs.specs.Inputs.{IsListed, JobBasis}
 use Rattle.ht_net.specs.declared.fault.Fault.{Fault}
 use Rattle.ht_net.specs.declared.place.Place.{Place}
 use Rattle.ht_net.specs.Circuit.Netlist.{Netlist}
-use Rattle.ht_proofs.specs.Detections.{AreFirstDetections, AreWithin}
+use Rattle.ht_proofs.specs.Detections.{AreFirstDetections}
 use Rattle.ht_texts.specs.declared.said.Said.{Said}
 use Rattle.ht_texts.specs.Verdicts.{saids_of}
 use Rattle.ht_texts.specs.Tests.{test_text}
@@ -197,14 +197,6 @@ pub record IsReportOf (c : Netlist) (start : List Tern) (list : List (List Bool)
   pub detections : AreFirstDetections c representatives start list places
   pub report_is : report ≡ report_text c representatives None (saids_of places)
   pub total_is : total ≡ with_lf (total_line (report_sums representatives None (saids_of places)))
-
--- What is said of the faults is what the vectors show first, from the start.
-pub record SayDetections (c : Netlist) (representatives : List ℕ) (start : List Tern) (list : List (List Bool))
-    (saids : List Said) : Type 0 where
-  pub places : List (Option Place)
-  pub detections : AreFirstDetections c representatives start list places
-  pub within : AreWithin c list places
-  pub saids_are : saids ≡ saids_of places
 
 -- ---- `compact`
 

@@ -6,7 +6,8 @@ ghost use Rattle.ht_net.specs.Detect.Detection.{IsStart};
 ghost use Rattle.ht_faults.specs.Sites.{faults_of};
 ghost use Rattle.ht_faults.specs.Classes.{AreClasses};
 ghost use Rattle.ht_asked.specs.Asked as asked;
-ghost use Rattle.ht_app.specs.Outputs.{IsReportOf, SayDetections, file_acts};
+ghost use Rattle.ht_app.specs.Outputs.{IsReportOf, file_acts};
+ghost use Rattle.ht_app.specs.Simulated.{SayDetections};
 ghost use Rattle.ht_app.specs.Steps.{Prepares};
 
 use crate::made::{Made, or_no_memory, report_of};
@@ -39,6 +40,27 @@ fn simulated(
     saids_of(alloc, &places)
 }
 
+// The report of these faults over the vectors, from the start.
+fn report_listed(
+    alloc: Global,
+    circuit: &Circuit,
+    listed: &Listed,
+    start: &[Tern],
+    list: &Vectors,
+) -> Result<Made, AllocError>
+    requires faults { listed.now.faults ≡ faults_of circuit.now }
+    requires classes { AreClasses circuit.now listed.now.classes }
+    requires latches { IsStart circuit.now start.now }
+    requires width { list.now.width ≡ circuit.now.inputs }
+    requires few { length list.now.list ≤ max_text_bytes }
+    ensures { IfOk result
+        (λ texts. IsReportOf circuit.now start.now list.now.list
+        (texts.body.items ++ texts.total.items) texts.total.items) }
+{
+    let saids = simulated(alloc, circuit, listed, start, list)?;
+    report_of(alloc, circuit, listed, None, &saids)
+}
+
 // Simulates the representative of each class of faults over the vectors, from the start.
 fn report_texts(
     alloc: Global,
@@ -54,8 +76,10 @@ fn report_texts(
         (texts.body.items ++ texts.total.items) texts.total.items) }
 {
     let listed = list_faults(alloc, circuit)?;
-    let saids = simulated(alloc, circuit, &listed, start, list)?;
-    report_of(alloc, circuit, &listed, None, &saids)
+    let made = report_listed(alloc, circuit, &listed, start, list);
+    // for the proof: a drop by name is far cheaper to check than one in place
+    drop(listed);
+    made
 }
 
 /// Reads the netlist, the start if one is stated, and the tests, in this order, simulates, and makes the report.

@@ -1,6 +1,8 @@
-use Rattle.std.proofs.Common.{◌≡◌, Bool, true, false, refl, sym, subst, rules}
-use Rattle.std.specs.Prelude.{Result, Ok, Err}
-use Rattle.ht_app.proofs.Common.{RunError, Step, Tries, step_acts}
+use Rattle.std.proofs.Common.{◌≡◌, ◌≢◌, Bool, List, true, false, refl, sym, subst, rules}
+use Rattle.std.specs.Prelude.{◌↔◌, Result, Ok, Err, IfOk, OnOk}
+use Rattle.std.specs.Result.{result_and}
+use Rattle.ht_app.proofs.Common.{Act, DeskView, Finished, RunError, Step, Tries, step_acts}
+use Rattle.ht_app.specs.Generating.{CountsStep}
 use Rattle.ht_inputs.specs.declared.run_error.RunError.TheVariants.{NoMemory}
 use Rattle.ht_app.proofs.StepLaws.{counts_nothing}
 use Rattle.ht_app.proofs.WritingLaws.{runs_out_first, tries_none}
@@ -28,17 +30,31 @@ returns-in_err-text-clause-tries g c =
     runs_out_first Bool (step_acts c.args.step.now) a in
     search (rules, tries)
 
-pub returns-in_err-put_step-clause-tries : goal.returns-in_err-put_step-clause-tries
-returns-in_err-put_step-clause-tries g c =
-    let Turned = λ (r : Result Bool RunError). Tries (step_acts c.args.step.now) r (g.D.Desk.view c.args.desk.now)
-    (g.D.Desk.view c.put_step.new.desk) in
-    let error : Result Bool RunError = Err c.in_err-put_step.field-0.0 in
-    let turns : Turned error = record { ends = c.in_err-put_step.ensures.tries.ends } in
-    let is : c.from_residual-in_err-put_step.result ≡ error = search rules in
-    subst Turned (sym is) turns
+more_after : (written : Result (Unit {0}) RunError) (step : Step) → step ≢ Finished
+    → IfOk (result_and written (Ok true)) (λ more. more ≡ true ↔ step ≢ Finished)
+more_after (Ok done) step other = (λ yes. other, λ is. refl)
+more_after (Err error) step other = tt
+
+counted_after : (written : Result (Unit {0}) RunError) (P : Type 0) → OnOk written P
+    → OnOk (result_and written (Ok true)) P
+counted_after (Ok done) P counted = counted
+counted_after (Err error) P counted = tt
+
+tries_after : (written : Result (Unit {0}) RunError) {acts : List Act} {a b : DeskView} → Tries acts written a b
+    → Tries acts (result_and written (Ok true)) a b
+tries_after (Ok done) tries = record { ends = tries.ends }
+tries_after (Err error) tries = record { ends = tries.ends }
 
 pub returns-clause-more : goal.returns-clause-more
-returns-clause-more g c = (λ yes. c.in_default.not-Finished, λ other. refl)
+returns-clause-more g c = subst (λ (r : Result Bool RunError). IfOk r (λ more. more ≡ true ↔ c.args.step.now ≢ Finished))
+    (sym c.and.ensures) (more_after c.put_step-written.result c.args.step.now c.in_default.not-Finished)
+
+pub returns-clause-counted : goal.returns-clause-counted
+returns-clause-counted g c =
+    subst (λ (r : Result Bool RunError). OnOk r (CountsStep c.args.step.now c.args.sizes.now c.put_step-written.new.sizes))
+    (sym c.and.ensures) (counted_after c.put_step-written.result _ c.put_step-written.ensures.counted)
 
 pub returns-clause-tries : goal.returns-clause-tries
-returns-clause-tries g c = record { ends = c.in_ok-put_step.ensures.tries.ends }
+returns-clause-tries g c = subst (λ (r : Result Bool RunError). Tries (step_acts c.args.step.now) r
+    (g.D.Desk.view c.args.desk.now) (g.D.Desk.view c.put_step-written.new.desk))
+    (sym c.and.ensures) (tries_after c.put_step-written.result c.put_step-written.ensures.tries)
