@@ -1,6 +1,8 @@
 -- The engine's steps, written and counted one after the other.
-use Rattle.std.proofs.Common.{◌≡◌, ◌≢◌, ℕ, ◌+◌, ◌≤◌, List, [], ◌∷◌, ◌++◌, false, length, flat_map, refl, sym, ◌∙◌, ap, subst, arith, append_assoc, append-nil}
-use Rattle.std.specs.Prelude.{Result, Ok, Err, OnOk}
+use Rattle.std.proofs.Common.{◌≡◌, ◌≢◌, ℕ, ◌+◌, ◌≤◌, List, [], ◌∷◌, ◌++◌, false, true, length, flat_map, refl, sym, ◌∙◌, ap, subst, arith, append_assoc, append-nil}
+use Rattle.std.specs.Prelude.{◌↔◌, Bool, Result, Ok, Err, IfOk, OnOk}
+use Rattle.std.proofs.lemmas.Bool.{false≢true}
+use Rattle.std.proofs.lemmas.Result.{IfOk-at_ok, on_ok_weaker}
 use Rattle.std.proofs.lemmas.List.{length-append}
 use Rattle.std.proofs.lemmas.List.Concat.{flat_map-append}
 use Rattle.ht_app.proofs.Common.{Act, AreFinished, AreSteps, DeskView, EngineView, Entry, Finished, HasSameWork}
@@ -16,7 +18,7 @@ use Rattle.ht_files.proofs.StepTextLaws.{proofs_grow, tests_grow}
 use Rattle.ht_files.specs.declared.text_size.TextSize.{TextSize}
 use Rattle.ht_inputs.specs.declared.run_error.RunError.TheVariants.{NoMemory}
 use Rattle.ht_app.specs.Generating.{CountsStep}
-use Rattle.ht_app.proofs.WritingLaws.{runs_out_first, tries_none, tries_then}
+use Rattle.ht_app.proofs.WritingLaws.{runs_out_first, tries_then}
 
 -- ---- where the text of a step goes
 
@@ -94,13 +96,13 @@ makes_step step other made = made
 
 -- ---- no step more, or one
 
--- the same where no step is made
+-- no step more is written
 nothing_more : {A : Type 0} {steps : List Step} {AtEnd : Type 0} {e later : EngineView} {sizes : Sizes}
-    {result : Result A RunError} {a : DeskView}
-    → AreSteps e.circuit e.representatives e.settings steps → Tries [] result a a
+    {result : Result A RunError} {a b : DeskView}
+    → AreSteps e.circuit e.representatives e.settings steps → Tries [] result a b
     → OnOk result (StandsAt steps later sizes)
     → (AtEnd → AreFinished e.circuit e.representatives e.settings steps)
-    → WritesOn steps AtEnd e later sizes result a a
+    → WritesOn steps AtEnd e later sizes result a b
 nothing_more {steps = steps} {e = e} {later = later} {sizes = sizes} {result = result} are tries stands finished =
     let same = sym (append-nil steps) in
     record {
@@ -117,21 +119,6 @@ pub runs_out : {A : Type 0} {steps : List Step} {AtEnd : Type 0} {e : EngineView
     → WritesOn {A = A} steps AtEnd e later sizes (Err NoMemory) a a
 runs_out {A} later sizes a stands never =
     nothing_more stands.engine.are (runs_out_first A [] a) tt (λ end. absurd (never end))
-
--- at the end no step more is written, and the steps are all
-pub all_made : {steps : List Step} {old new : EngineView} {step : Step} {sizes : Sizes} (a : DeskView) (End : Type 0)
-    → step ≡ Finished → StandsAt steps old sizes → HasSameWork old new
-    → Makes old new steps step → WritesOn steps End old new sizes (Ok false) a a
-all_made {steps = steps} {old = old} {new = new} {sizes = sizes} a End is stands same made =
-    let last : Makes old new steps Finished = subst (Makes old new steps) is made in
-    nothing_more stands.engine.are tries_none
-    (record {
-      engine = last.1;
-      tests = stands.tests;
-      proofs = subst (λ (s : Settings). sizes.proofs.bytes ≡ length (proofs_so_far s steps)) (sym same.settings)
-          stands.proofs;
-      short = stands.short;
-    }) (λ end. last.0)
 
 -- the bytes of one step more are counted
 counted_more : (bytes more all : List ℕ) (old new : ℕ) → all ≡ bytes ++ more → old ≡ length bytes
@@ -164,6 +151,37 @@ module _ {A : Type 0} {steps : List Step} {old new : EngineView} {step : Step} {
     stands = stands_later result counts;
     finished = λ end. absurd (never end);
   }
+
+-- the end leaves the steps and their sizes
+stands_at_end : {steps : List Step} {old new : EngineView} {before after : Sizes} → StandsAt steps old before
+    → HasSameWork old new → EngineStandsFor new steps → CountsStep Finished before after → StandsAt steps new after
+stands_at_end {steps = steps} {after = after} stands same engine counts = record {
+  engine = engine;
+  tests = omega (arith, stands.tests, counts.tests);
+  proofs = subst (λ (s : Settings). after.proofs.bytes ≡ length (proofs_so_far s steps)) (sym same.settings)
+      (omega (arith, stands.proofs, counts.proofs));
+  short = counts.short stands.short;
+}
+
+-- a result that is true exactly where the step isn't the end isn't false at another step
+never_false : {step : Step} {result : Result Bool RunError} → step ≢ Finished
+    → IfOk result (λ more. more ≡ true ↔ step ≢ Finished) → result ≡ Ok false → ⊥
+never_false {step = step} other more is =
+    false≢true ((IfOk-at_ok (λ (m : Bool). m ≡ true ↔ step ≢ Finished) is more).1 other)
+
+-- A step that an engine made, and that was tried to be written, is one step more that is written, but the end. There the
+-- steps are all.
+pub wrote_made : {steps : List Step} {old new : EngineView} {before : Sizes} (after : Sizes) {a b : DeskView}
+    (step : Step) (result : Result Bool RunError) → StandsAt steps old before → HasSameWork old new
+    → Makes old new steps step → IfOk result (λ more. more ≡ true ↔ step ≢ Finished)
+    → OnOk result (CountsStep step before after) → Tries (step_acts step) result a b
+    → WritesOn steps (result ≡ Ok false) old new after result a b
+wrote_made after Finished result stands same made more counted tries = nothing_more stands.engine.are tries
+    (on_ok_weaker result (λ counts. stands_at_end stands same made.1 counts) counted) (λ end. made.0)
+wrote_made after (Vectors list) result stands same made more counted tries =
+    made_one after stands same made result tries counted (never_false (λ is. cc) more)
+wrote_made after (Entry fault entry) result stands same made more counted tries =
+    made_one after stands same made result tries counted (never_false (λ is. cc) more)
 
 -- ---- steps after steps
 

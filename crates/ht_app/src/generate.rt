@@ -2,7 +2,9 @@
 //!
 //! `create` makes the three files, and `fill` writes them: `sizes` begins the proofs, `steps` writes the engine's steps,
 //! and the report comes last.
-ghost use Rattle.std.specs.Prelude.{◌≡◌, ◌≤◌};
+ghost use Rattle.std.specs.Prelude.{◌≡◌, ◌≤◌, [], None};
+ghost use Rattle.ht_ports.specs.Desk.{DeskView};
+ghost use Rattle.ht_net.specs.Circuit.Netlist.{IsCircuit};
 ghost use Rattle.ht_net.specs.Detect.Detection.{IsStart};
 ghost use Rattle.ht_faults.specs.Sites.{faults_of};
 ghost use Rattle.ht_faults.specs.Classes.{AreClasses};
@@ -11,6 +13,8 @@ ghost use Rattle.ht_asked.specs.declared.limits.TheConstants.{MAX_BUDGET, MIN_BU
 ghost use Rattle.ht_asked.specs.Ranges.{AreOptions};
 ghost use Rattle.ht_words.specs.Jobs.{asked_by, options_by};
 ghost use Rattle.ht_words.specs.declared.job.Job.TheVariants as job_of;
+ghost use Rattle.ht_inputs.specs.Inputs.{HasNetlist, IsStated, JobBasis};
+ghost use Rattle.ht_inputs.specs.Reading.{HasReadTo};
 ghost use Rattle.ht_app.specs.Generating.{WritesAll};
 ghost use Rattle.ht_app.specs.Outputs.{search_of};
 ghost use Rattle.ht_app.specs.Steps.{EndsJob};
@@ -98,6 +102,64 @@ fn run_engine<D: Desk>(
     )
 }
 
+// Reads the list of faults, if the options name one, once the other files are read, generates tests, and writes them, the
+// proofs and the report.
+fn generate_chosen<D: Desk>(
+    alloc: Global,
+    circuit: &Circuit,
+    listed: &Listed,
+    files: &RunFiles,
+    options: &GenOptions,
+    start: Vec<Tern>,
+    first: Vectors,
+    desk: &mut D,
+) -> Result<(), RunError>
+    requires netlist { HasNetlist circuit.now }
+    requires faults { listed.now.faults ≡ faults_of circuit.now }
+    requires classes { AreClasses circuit.now listed.now.classes }
+    requires latches { IsStart circuit.now start.items }
+    requires width { first.width ≡ circuit.now.inputs }
+    requires none { options.now.first ≡ None → first.list ≡ [] }
+    requires options { AreOptions (options_by options.now) }
+    ensures { (before : DeskView) → ((basis : JobBasis) → basis.circuit ≡ circuit.now
+        → basis.content.start ≡ start.items → basis.content.list ≡ first.list
+        → HasReadTo (asked_by (job_of.Gen files.now options.now)) basis 3 before (D.view desk.old))
+        → EndsJob (asked_by (job_of.Gen files.now options.now)) result before (D.view desk.new) }
+{
+    let chosen = read_chosen(alloc, desk, listed.faults.len(), &options.faults)?;
+    let settings = settings_for(options, start, first, chosen);
+    let done = run_engine(alloc, circuit, listed, files, &settings, desk);
+    // for the proof: a drop by name is far cheaper to check than one in place
+    drop(settings);
+    done
+}
+
+// Reads the files that the options name, once the netlist is read, generates tests, and writes them, the proofs and the
+// report.
+fn generate_for<D: Desk>(
+    alloc: Global,
+    circuit: &Circuit,
+    files: &RunFiles,
+    options: &GenOptions,
+    desk: &mut D,
+) -> Result<(), RunError>
+    requires circuit { IsCircuit circuit.now }
+    requires netlist { HasNetlist circuit.now }
+    requires options { AreOptions (options_by options.now) }
+    ensures { (first : DeskView) → ((basis : JobBasis) → basis.circuit ≡ circuit.now
+        → IsStated (asked_by (job_of.Gen files.now options.now)) basis
+        → HasReadTo (asked_by (job_of.Gen files.now options.now)) basis 1 first (D.view desk.old))
+        → EndsJob (asked_by (job_of.Gen files.now options.now)) result first (D.view desk.new) }
+{
+    let start = read_stated(alloc, desk, circuit, &options.start)?;
+    let first = read_first(alloc, desk, circuit, &options.first)?;
+    let listed = list_faults(alloc, circuit)?;
+    let done = generate_chosen(alloc, circuit, &listed, files, options, start, first, desk);
+    // for the proof: a drop by name is far cheaper to check than one in place
+    drop(listed);
+    done
+}
+
 /// Runs `gen`: reads the netlist and the files that the options name, the start, the first vectors and the list of
 /// faults, generates tests, and writes them, the proofs and the report.
 ///
@@ -114,10 +176,8 @@ pub fn generate<D: Desk>(
         (D.view desk.new) }
 {
     let circuit = read_netlist(alloc, desk, files.netlist.as_str())?;
-    let start = read_stated(alloc, desk, &circuit, &options.start)?;
-    let first = read_first(alloc, desk, &circuit, &options.first)?;
-    let listed = list_faults(alloc, &circuit)?;
-    let chosen = read_chosen(alloc, desk, listed.faults.len(), &options.faults)?;
-    let settings = settings_for(options, start, first, chosen);
-    run_engine(alloc, &circuit, &listed, files, &settings, desk)
+    let done = generate_for(alloc, &circuit, files, options, desk);
+    // for the proof: a drop by name is far cheaper to check than one in place
+    drop(circuit);
+    done
 }

@@ -10,12 +10,11 @@ ghost use Rattle.ht_inputs.specs.Grading.{IsOfCircuit};
 ghost use Rattle.ht_app.specs.Outputs.{IsReportOfVerdicts, file_acts};
 ghost use Rattle.ht_app.specs.Steps.{Prepares};
 
-use crate::made::{Made, or_no_memory};
+use crate::made::{Made, or_no_memory, report_of};
 use ht_files::TextSize;
 use ht_inputs::{Graded, RunError, read_graded, read_verdicts};
 use ht_judge::Claims;
 use ht_ports::Desk;
-use ht_texts::{Sums, write_body, write_total};
 use ht_words::{FileName, RunFiles};
 use std::alloc::{AllocError, Global};
 
@@ -29,22 +28,18 @@ fn report_texts(alloc: Global, graded: &Graded, claims: &Claims) -> Result<Made,
         claims.now.budget claims.now.saids.items (made.body.items ++ made.total.items)
         made.total.items) }
 {
-    let listed = &graded.listed;
     let budget = Some(claims.budget);
-    let circuit = &graded.circuit;
-    let body = write_body(
+    let made = report_of(
         alloc,
-        circuit,
-        &listed.faults,
-        &listed.classes,
+        &graded.circuit,
+        &graded.listed,
         budget,
         &claims.saids,
     )?;
-    let total = write_total(alloc, Sums::of(&listed.classes, &claims.saids, true))?;
     let mut size = TextSize::new();
-    size.add(&body)?;
-    size.add(&total)?;
-    Ok(Made { body, total })
+    size.add(&made.body)?;
+    size.add(&made.total)?;
+    Ok(made)
 }
 
 /// Reads the netlist, the start if one is stated, the tests and the proofs, in this order, and makes the report that they

@@ -1,17 +1,14 @@
-use Rattle.std.proofs.Common.{◌≡◌, ◌≤◌, ◌+◌, ◌++◌, ℕ, List, Some, true, length, sym, subst, ap, ◌∙◌, rules, arith}
+use Rattle.std.proofs.Common.{◌≡◌, ◌≤◌, ◌+◌, ◌++◌, ℕ, List, Some, length, sym, subst, ap, arith}
 use Rattle.std.proofs.lemmas.List.{length-append}
 use Rattle.ht_app.proofs.Common.{Said, max_text_bytes, with_lf}
-use Rattle.ht_texts.specs.declared.total.Sums.{Sums}
-use Rattle.ht_texts.specs.Counts.{sums_of}
-use Rattle.ht_texts.specs.Reports.{report_body, report_sums, report_text, total_line}
+use Rattle.ht_texts.specs.Reports.{report_sums, report_text, total_line}
 use Rattle.ht_texts.specs.SearchReports.{IsReportText}
 use Rattle.ht_texts.specs.Verdicts.{AreSayable}
 use Rattle.ht_texts.proofs.ReportWrittenLaws.{written_is_report}
-use Rattle.ht_app.proofs.ReportLaws.{whole_report}
 use Rattle.ht_app.proofs.report.report_texts.Goals as goal
 
-pub write_body-requires-clause-saids : goal.write_body-requires-clause-saids
-write_body-requires-clause-saids c =
+pub report_of-requires-clause-saids : goal.report_of-requires-clause-saids
+report_of-requires-clause-saids c =
     subst (λ (l : List Said). AreSayable c.args.graded.now.circuit c.args.graded.now.listed.classes l)
     (sym c.deref.ensures.value) c.requires.search.saids_are
 
@@ -21,15 +18,14 @@ returns c =
     let classes = c.args.graded.now.listed.classes in
     let budget = c.args.claims.now.budget in
     let saids = c.args.claims.now.saids.items in
-    let body = c.in_ok-body.body.items in
-    let total = c.in_ok-total.total.items in
-    let body_is : body ≡ report_body circuit classes (Some budget) saids = search rules in
-    let total_is : total ≡ with_lf (total_line (report_sums classes (Some budget) saids)) =
-    c.in_ok-total.ensures
-    ∙ ap (λ (sums : Sums). with_lf (total_line sums))
-    (c.of.ensures ∙ ap (λ (l : List Said). sums_of classes l true) c.deref-2.ensures.value) in
+    let body = c.in_ok-made.made.body.items in
+    let total = c.in_ok-made.made.total.items in
     let same : body ++ total ≡ report_text circuit classes (Some budget) saids =
-    whole_report circuit classes (Some budget) saids body total body_is total_is in
+    subst (λ (l : List Said). body ++ total ≡ report_text circuit classes (Some budget) l) c.deref.ensures.value
+    c.in_ok-made.ensures.report in
+    let total_is : total ≡ with_lf (total_line (report_sums classes (Some budget) saids)) =
+    subst (λ (l : List Said). total ≡ with_lf (total_line (report_sums classes (Some budget) l))) c.deref.ensures.value
+    c.in_ok-made.ensures.total in
     let short : length (report_text circuit classes (Some budget) saids) ≤ max_text_bytes = omega (
       arith,
       ap length same,
@@ -38,8 +34,8 @@ returns c =
       c.in_ok-add.ensures.counted,
       c.in_ok-add-2.ensures.counted,
       c.in_ok-add-2.ensures.short,
+      ap (λ (l : List ℕ). length l) c.deref-2.ensures.value,
       ap (λ (l : List ℕ). length l) c.deref-3.ensures.value,
-      ap (λ (l : List ℕ). length l) c.deref-4.ensures.value,
     ) in
     record {
       report_is = same;
