@@ -87,7 +87,7 @@ fn run_engine<D: Desk>(
 {
     let faults = &listed.faults;
     let mut engine = Engine::new(alloc, circuit, faults, &listed.classes, settings)?;
-    write_files(
+    let written = write_files(
         alloc,
         circuit,
         listed,
@@ -95,7 +95,10 @@ fn run_engine<D: Desk>(
         settings.search,
         &mut engine,
         desk,
-    )
+    );
+    // for the proof: a drop by name is far cheaper to check than one in place
+    drop(engine);
+    written
 }
 
 /// Runs `gen`: reads the netlist and the files that the options name, the start, the first vectors and the list of
