@@ -12,4 +12,4 @@ returns-in_err-engine g c =
     search (rules, stops)
 
 pub returns : goal.returns
-returns g c = rw c.in_ok-engine.ensures.settings at c.write_files.ensures
+returns g c = rw c.in_ok-engine.ensures.settings at c.write_files-written.ensures

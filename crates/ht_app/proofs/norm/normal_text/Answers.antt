@@ -27,4 +27,4 @@ returns-in_err-circuit g c = λ out.
 pub returns : goal.returns
 returns g c = λ out. prepares (reads g (goal.at.returns g c).In_ok-circuit out) _ _ _ (no_more c.args.netlist.now out)
     c.in_ok-circuit.ensures.netlist c.or_no_memory.ensures
-    (IfOk-weaker c.write.result _ _ (λ text is. ap (λ t. make Report out ∷ put Report t ∷ []) is) c.write.ensures)
+    (IfOk-weaker c.write-text.result _ _ (λ text is. ap (λ t. make Report out ∷ put Report t ∷ []) is) c.write-text.ensures)

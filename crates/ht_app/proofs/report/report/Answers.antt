@@ -100,17 +100,17 @@ returns-in_err-claims g c =
 
 -- ---- the report
 
-pub report_texts-requires-clause-graded : goal.report_texts-requires-clause-graded
-report_texts-requires-clause-graded g c = c.in_ok-graded.ensures.graded.of_circuit
+pub report_texts-made-requires-clause-graded : goal.report_texts-made-requires-clause-graded
+report_texts-made-requires-clause-graded g c = c.in_ok-graded.ensures.graded.of_circuit
 
-pub report_texts-requires-clause-plain : goal.report_texts-requires-clause-plain
-report_texts-requires-clause-plain g c =
+pub report_texts-made-requires-clause-plain : goal.report_texts-made-requires-clause-plain
+report_texts-made-requires-clause-plain g c =
     let netlist = c.in_ok-graded.ensures.graded.netlist in
     plain_names netlist.0 c.in_ok-graded.graded.circuit netlist.1.stands
 
-pub report_texts-requires-clause-search : goal.report_texts-requires-clause-search
-report_texts-requires-clause-search g c =
-    let is = verdicts_are g (goal.at.report_texts-requires-clause-search g c).In_ok-claims in
+pub report_texts-made-requires-clause-search : goal.report_texts-made-requires-clause-search
+report_texts-made-requires-clause-search g c =
+    let is = verdicts_are g (goal.at.report_texts-made-requires-clause-search g c).In_ok-claims in
     let graded = c.in_ok-graded.ensures.graded in record {
       budget_is = rw is.budget c.requires;
       listed = omega arith;
@@ -128,7 +128,7 @@ returns g c =
     let of = graded.of_circuit in
     let is = verdicts_are g at in
     prepares (all_reads g at) _ _ _ (no_more c.args.files.now c.args.budget c.args.start.now) graded.netlist
-    c.or_no_memory.ensures (IfOk-weaker c.report_texts.result _ _ (λ made so. (
+    c.or_no_memory.ensures (IfOk-weaker c.report_texts-made.result _ _ (λ made so. (
       refl,
       record {
         classes = of.classes;
@@ -137,4 +137,4 @@ returns g c =
         decided = are_decided _ _ _ of.circuit of.latches is.are.justified;
       },
       record { body = _; total = _; so = so; acts_are = refl },
-    )) (rw is.budget at c.report_texts.ensures))
+    )) (rw is.budget at c.report_texts-made.ensures))

@@ -86,7 +86,7 @@ returns-in_err-list g c = λ out.
 pub returns : goal.returns
 returns g c = λ out. prepares (all_reads g (goal.at.returns g c).In_ok-list out) _ _ _
     (no_more c.args.netlist.now c.args.tests.now out c.args.number c.args.start.now) c.in_ok-circuit.ensures.netlist
-    c.or_no_memory.ensures (IfOk-weaker c.response_texts.result _ _ (λ texts are. record {
+    c.or_no_memory.ensures (IfOk-weaker c.response_texts-made.result _ _ (λ texts are. record {
       fault = c.in_ok-fault.fault;
       body = _;
       said = _;
@@ -94,4 +94,4 @@ returns g c = λ out. prepares (all_reads g (goal.at.returns g c).In_ok-list out
       machine = c.in_ok-fault.ensures.machine;
       so = are;
       acts_are = refl;
-    }) (rw c.deref.ensures.value at c.response_texts.ensures))
+    }) (rw c.deref.ensures.value at c.response_texts-made.ensures))

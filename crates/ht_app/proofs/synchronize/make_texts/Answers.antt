@@ -28,5 +28,5 @@ returns-in_err-circuit g c = λ tests out.
 pub returns : goal.returns
 returns g c = λ tests out. prepares (reads g (goal.at.returns g c).In_ok-circuit tests out) _ _ _
     (no_more c.args.netlist.now tests out c.args.budget) c.in_ok-circuit.ensures.netlist c.or_no_memory.ensures
-    (IfOk-weaker c.sync_texts.result _ _
-    (λ texts are. record { list = _; body = _; said = _; last = _; so = are; acts_are = refl }) c.sync_texts.ensures)
+    (IfOk-weaker c.sync_texts-made.result _ _
+    (λ texts are. record { list = _; body = _; said = _; last = _; so = are; acts_are = refl }) c.sync_texts-made.ensures)

@@ -28,4 +28,4 @@ returns-in_err-circuit g c = λ out.
 pub returns : goal.returns
 returns g c = λ out. prepares_file (reads g (goal.at.returns g c).In_ok-circuit out) _ _ _ _ _
     (no_more c.args.netlist.now out c.args.budget) c.in_ok-circuit.ensures.netlist (λ acts is. is)
-    c.or_no_memory.ensures c.uninit_texts.ensures
+    c.or_no_memory.ensures c.uninit_texts-made.ensures
