@@ -155,7 +155,7 @@ fn total_under(
         settings,
     )?;
     let total = make_total(alloc, prepared, &mut engine);
-    // for the proof: a drop by name is far cheaper to check than one in place
+    // for the proof: dropped by name
     drop(engine);
     total
 }
@@ -170,7 +170,7 @@ fn find_total(alloc: Global, prepared: &Prepared, seed: u64) -> Result<Vec<u8>, 
 {
     let settings = settings_for(alloc, &prepared.circuit, seed)?;
     let total = total_under(alloc, prepared, &settings);
-    // for the proof: a drop by name is far cheaper to check than one in place
+    // for the proof: dropped by name
     drop(settings);
     total
 }
@@ -204,7 +204,7 @@ pub fn demo<D: Desk>(alloc: Global, size: u32, seed: u64, desk: &mut D) -> Resul
 {
     let prepared = prepare(alloc, size, seed)?;
     let said = say_lines(alloc, &prepared, seed, desk);
-    // for the proof: a drop by name is far cheaper to check than one in place
+    // for the proof: dropped by name
     drop(prepared);
     said
 }

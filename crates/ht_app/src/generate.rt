@@ -100,7 +100,7 @@ fn run_engine<D: Desk>(
         &mut engine,
         desk,
     );
-    // for the proof: a drop by name is far cheaper to check than one in place
+    // for the proof: dropped by name
     drop(engine);
     written
 }
@@ -132,7 +132,7 @@ fn generate_chosen<D: Desk>(
     let chosen = read_chosen(alloc, desk, listed.faults.len(), &options.faults)?;
     let settings = settings_for(options, start, first, chosen);
     let done = run_engine(alloc, circuit, listed, files, &settings, desk);
-    // for the proof: a drop by name is far cheaper to check than one in place
+    // for the proof: dropped by name
     drop(settings);
     done
 }
@@ -158,7 +158,7 @@ fn generate_for<D: Desk>(
     let first = read_first(alloc, desk, circuit, &options.first)?;
     let listed = list_faults(alloc, circuit)?;
     let done = generate_chosen(alloc, circuit, &listed, files, options, start, first, desk);
-    // for the proof: a drop by name is far cheaper to check than one in place
+    // for the proof: dropped by name
     drop(listed);
     done
 }
@@ -180,7 +180,7 @@ pub fn generate<D: Desk>(
 {
     let circuit = read_netlist(alloc, desk, files.netlist.as_str())?;
     let done = generate_for(alloc, &circuit, files, options, desk);
-    // for the proof: a drop by name is far cheaper to check than one in place
+    // for the proof: dropped by name
     drop(circuit);
     done
 }

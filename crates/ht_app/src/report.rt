@@ -63,7 +63,7 @@ pub fn report<D: Desk>(
     let graded = read_graded(alloc, files, start, desk)?;
     let claims = read_verdicts(alloc, desk, files.proofs.as_str(), &graded, budget)?;
     let made = report_texts(alloc, &graded, &claims);
-    // for the proof: a drop by name is far cheaper to check than one in place
+    // for the proof: dropped by name
     drop(graded);
     or_no_memory(made)
 }

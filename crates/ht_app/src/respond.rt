@@ -91,7 +91,7 @@ fn make_texts<D: Desk>(
     let fault = named_fault(alloc, &circuit, number)?;
     let list = read_tests(alloc, desk, tests, &circuit, u64::MAX)?;
     let made = response_texts(alloc, &circuit, fault, &start, &list);
-    // for the proof: a drop by name is far cheaper to check than one in place
+    // for the proof: dropped by name
     drop(circuit);
     or_no_memory(made)
 }

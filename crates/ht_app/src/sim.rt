@@ -77,7 +77,7 @@ fn report_texts(
 {
     let listed = list_faults(alloc, circuit)?;
     let made = report_listed(alloc, circuit, &listed, start, list);
-    // for the proof: a drop by name is far cheaper to check than one in place
+    // for the proof: dropped by name
     drop(listed);
     made
 }

@@ -77,7 +77,7 @@ fn make_texts<D: Desk>(
 {
     let circuit = read_netlist(alloc, desk, netlist)?;
     let made = sync_texts(alloc, &circuit, budget);
-    // for the proof: a drop by name is far cheaper to check than one in place
+    // for the proof: dropped by name
     drop(circuit);
     or_no_memory(made)
 }

@@ -41,7 +41,7 @@ fn uninit_texts(alloc: Global, circuit: &Circuit, budget: u64) -> Result<Made, A
 {
     let listed = list_faults(alloc, circuit)?;
     let made = texts_for(alloc, circuit, &listed, budget);
-    // for the proof: a drop by name is far cheaper to check than one in place
+    // for the proof: dropped by name
     drop(listed);
     made
 }
@@ -62,7 +62,7 @@ pub fn uninit<D: Desk>(
 {
     let circuit = read_netlist(alloc, desk, netlist.as_str())?;
     let made = uninit_texts(alloc, &circuit, budget);
-    // for the proof: a drop by name is far cheaper to check than one in place
+    // for the proof: dropped by name
     drop(circuit);
     or_no_memory(made)
 }
