@@ -5,7 +5,7 @@ use Rattle.std.proofs.lemmas.Bool.{false≢true}
 use Rattle.std.proofs.lemmas.Result.{IfOk-at_ok, on_ok_weaker}
 use Rattle.std.proofs.lemmas.List.{length-append}
 use Rattle.std.proofs.lemmas.List.Concat.{flat_map-append}
-use Rattle.ht_app.proofs.Common.{Act, AreFinished, AreSteps, DeskView, EngineView, Entry, Finished, HasSameWork}
+use Rattle.ht_app.proofs.Common.{Act, AreFinished, AreSteps, DeskView, EngineStandsFor, EngineView, Entry, Finished, HasSameWork}
 use Rattle.ht_app.proofs.Common.{Makes, Rows, RunError, Settings, Sizes, StandsAt, Step, Tries, Vectors, WritesOn}
 use Rattle.ht_app.proofs.Common.{max_text_bytes, proofs_so_far, put, step_acts, tests_of}
 use Rattle.ht_ports.specs.declared.ports.OutPort.TheVariants.{Tests, Proofs}

@@ -63,7 +63,7 @@ returns-in_err-chosen g c = λ before read.
     let ends = ends_unread (c.in_err-chosen.ensures.stopped (job f options)
     (basis c.args.circuit.now c.args.start.items c.args.first.list []) before refl
     (counted g (goal.at.returns-in_err-chosen g c).After-len) (to_faults f options c.requires.netlist read [])) in
-    let is : c.from_residual-in_err-chosen.result ≡ Err c.in_err-chosen.field-0.0 = search rules in
+    let is : c.from_residual.result ≡ Err c.in_err-chosen.field-0.0 = search rules in
     subst (λ (r : Result (Unit {0}) RunError). EndsJob (job f options) r before (g.D.Desk.view c.read_chosen.new.desk))
     (sym is) ends
 
