@@ -1,4 +1,5 @@
-use Rattle.std.proofs.Common.{◌∙◌, sym, subst}
+use Rattle.std.proofs.lemmas.Grind.{common_steps}
+use Rattle.std.proofs.Common.{◌∙◌, sym, subst, arith}
 use Rattle.ht_forward.proofs.LengthsLaws.{closes_more, frames_few}
 use Rattle.ht_forward.specs.LengthAnswers.{FindsAfter}
 use Rattle.ht_forward.proofs.LengthFinds.{finds_after}
@@ -24,3 +25,6 @@ lengths-preserved g c =
       c.search.ensures.subject ∙ c.lengths.invariant.0,
       closes_more c.lengths.invariant.1 closed c.as_slice.ensures c.in_ok-push-in-Closed.ensures.items,
     )
+
+pub overflow_add-frames : goal.overflow_add-frames
+overflow_add-frames g c = grind (arith, common_steps)

@@ -1,3 +1,4 @@
+use Rattle.std.proofs.lemmas.Grind.{common_steps}
 use Rattle.std.proofs.Common.{◌∙◌, Some, sym, subst, arith}
 use Rattle.ht_net.specs.Circuit.Netlist.{Netlist}
 use Rattle.ht_tree.specs.Window.Windows.{IsStart}
@@ -43,3 +44,6 @@ lengths-preserved c =
       c.search_ahead.ensures.circuit ∙ c.lengths.invariant.0,
       closes_more c.lengths.invariant.1 closed c.as_slice.ensures c.in_ok-push-in-Closed.ensures.items,
     )
+
+pub overflow_add-frames : goal.overflow_add-frames
+overflow_add-frames c = grind (arith, common_steps)

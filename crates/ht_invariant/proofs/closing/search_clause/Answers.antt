@@ -1,3 +1,4 @@
+use Rattle.std.proofs.lemmas.Grind.{common_steps}
 use Rattle.std.proofs.Common.{◌≡◌, ◌<◌, ◌∙◌, List, Option, length, get_or, set, ap, sym, subst, arith}
 use Rattle.ht_tree.specs.declared.token.Token.{Token}
 use Rattle.ht_tree.specs.declared.clause.Clause.{Clause}
@@ -52,3 +53,6 @@ returns-in-None-clause-way c =
     subst (λ (o : Option (List Token)). IsClosingAnswer (closing_guide n ks k) b o) c.in-None.is (answer s) in
     λ initial way. clause_drops n b initial ks c.args.i way (inside s) k (is_own s)
     c.remove.new.self.items c.remove.ensures.items open_end
+
+pub close-requires-clause-known : goal.close-requires-clause-known
+close-requires-clause-known c = grind (arith, common_steps)

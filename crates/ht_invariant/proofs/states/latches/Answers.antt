@@ -1,0 +1,9 @@
+use Rattle.std.proofs.lemmas.Grind.{common_steps, elements}
+use Rattle.std.proofs.Common.{arith}
+use Rattle.ht_invariant.proofs.states.latches.Goals as goal
+
+pub loop-j-preserved : goal.loop-j-preserved
+loop-j-preserved c = grind (arith, common_steps)
+
+pub returns : goal.returns
+returns c = grind (arith, elements)
