@@ -20,7 +20,7 @@ pub struct Solver {
 }
 
 impl Model for Solver {
-    ghost use Rattle.ht_solver.specs.declared.Effort.{Effort};
+    ghost use Rattle.ht_solver.specs.declared.effort.Effort.{Effort};
 
     ghost Value = { Effort };
 
