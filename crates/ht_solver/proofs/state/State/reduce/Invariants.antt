@@ -1,5 +1,5 @@
 use Rattle.std.proofs.Common.{◌≡◌, ◌≤◌, length}
-use Rattle.ht_solver.proofs.learn.State.reduce.Given as goal
+use Rattle.ht_solver.proofs.state.State.reduce.Given as goal
 
 abbrev pub invariant-loop-at : goal.invariant-loop-at
 invariant-loop-at l = record {
