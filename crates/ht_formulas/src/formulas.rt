@@ -39,11 +39,16 @@ fn clauses_of(alloc: Global, text: &str) -> Result<Vec<Vec<Literal>>, AllocError
     Ok(clauses)
 }
 
-// Adds variables 0 to 6, of which a later one costs more, and the clauses.
-fn add_formula(solver: &mut Solver, clauses: &[Vec<Literal>]) -> Result<(), AllocError> {
+// Adds variables 0 to 6, of which a later one costs more.
+fn add_variables(solver: &mut Solver) -> Result<(), AllocError> {
     for cost in 0..7 {
         solver.add_variable(cost)?;
     }
+    Ok(())
+}
+
+fn add_formula(solver: &mut Solver, clauses: &[Vec<Literal>]) -> Result<(), AllocError> {
+    add_variables(solver)?;
     for clause in clauses {
         solver.add_support(clause)?;
     }
