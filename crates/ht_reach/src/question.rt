@@ -1,5 +1,5 @@
 //! Questions to a solver, and what they cost.
-ghost use Rattle.std.specs.Prelude.{◌≤◌, ◌+◌, OnOk};
+ghost use Rattle.std.specs.Prelude.{◌≡◌, ◌≤◌, ◌+◌, ◌-◌, OnOk};
 ghost use Rattle.ht_solver.specs.Efforts.{IsNoMore};
 
 use ht_solver::{Answer, Effort, Literal, Solver};
@@ -48,16 +48,16 @@ pub fn is_spent(left: Effort) -> bool {
     left.conflicts == 0 || left.propagations == 0
 }
 
-/// Takes one propagation from what is left. Each question costs it besides what the solver spends, so a loop that asks
-/// ends.
+/// Takes one propagation from what is left: the price of a question, besides what the solver spends.
 pub fn charge(left: &mut Effort)
-    ensures { IsNoMore left.new left.old }
+    ensures conflicts { left.new.conflicts ≡ left.old.conflicts }
+    ensures propagations { left.new.propagations ≡ left.old.propagations - 1 }
 {
     left.propagations = left.propagations.saturating_sub(1);
 }
 
 /// Asks a solver under assumptions, for as many conflicts at most, within what is left, and takes from it what the solver
-/// spends.
+/// spends, and one propagation more: so a loop that asks ends.
 ///
 /// # Errors
 /// Out of memory.
@@ -72,7 +72,9 @@ pub fn ask(
     ensures propagations { OnOk result (solver.new.propagations + left.new.propagations
         ≤ solver.old.propagations + left.old.propagations) }
     ensures less { IsNoMore left.new left.old }
+    ensures price { left.new.propagations ≤ left.old.propagations - 1 }
 {
+    charge(left);
     if is_spent(*left) {
         return Ok(Answer::GivenUp);
     }
@@ -87,6 +89,5 @@ pub fn ask(
     let propagations = after.propagations.saturating_sub(before.propagations);
     left.conflicts = left.conflicts.saturating_sub(conflicts);
     left.propagations = left.propagations.saturating_sub(propagations);
-    charge(left);
     Ok(answer)
 }
