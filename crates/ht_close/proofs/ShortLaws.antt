@@ -23,8 +23,12 @@ texts_size text_of [] short = omega arith
 texts_size {X} text_of (x ∷ xs) short =
     let P : X → Type 0 = λ y. length (text_of y) ≤ 20 in
     let first : length (text_of x) ≤ 20 = All-head P x xs short in
-    omega (arith, length-append (text_of x) (flat_map text_of xs), first,
-    texts_size text_of xs (All-tail P x xs short))
+    omega (
+      arith,
+      length-append (text_of x) (flat_map text_of xs),
+      first,
+      texts_size text_of xs (All-tail P x xs short),
+    )
 
 digits : (n : ℕ) → n ≤ short_number → length (decimal n) ≤ 9
 digits n small = length-decimal-le 9 n (omega arith) (omega (arith, small)) (omega (arith, small))

@@ -45,11 +45,7 @@ pub fn judge_cubes(
 }
 
 // The vectors that have a bit for each input, as a list.
-fn list_of(
-    alloc: Global,
-    circuit: &Circuit,
-    vectors: &[Vec<bool>],
-) -> Result<Vectors, AllocError>
+fn list_of(alloc: Global, circuit: &Circuit, vectors: &[Vec<bool>]) -> Result<Vectors, AllocError>
     ensures width { IfOk result (λ list. list.width ≡ circuit.now.inputs) }
     ensures wide { IfOk result (λ list. AreVectors circuit.now list.list) }
 {
@@ -94,11 +90,9 @@ pub fn judge_list(
     ensures { IfOk result (ClosedHolds circuit.now fault start.now) }
 {
     let list = list_of(alloc, circuit, vectors)?;
-    match first(alloc, circuit, fault, &list)? {
-        None => Ok(Closed::Open),
-        Some(place) => {
-            let count = (place.vector as usize).saturating_add(1).min(vectors.len());
-            judge_whole(alloc, circuit, fault, start, &vectors[..count])
-        }
-    }
+    let Some(place) = first(alloc, circuit, fault, &list)? else {
+        return Ok(Closed::Open);
+    };
+    let count = (place.vector as usize).saturating_add(1).min(vectors.len());
+    judge_whole(alloc, circuit, fault, start, &vectors[..count])
 }
