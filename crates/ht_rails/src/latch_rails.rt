@@ -39,22 +39,36 @@ impl LatchRails {
     fn add_latch(&mut self, rails: &Rails<'_>, dff: u32)
         requires { dff < length rails.now.circuit.dffs }
     {
-        for faulty in [true, false] {
-            for value in [false, true] {
-                let rail = Rail { faulty, dff, value };
-                write(&mut self.rails, rails.held(rail).variable, Some(rail));
-            }
+        for value in [false, true] {
+            self.add_rail(
+                rails,
+                Rail {
+                    faulty: true,
+                    dff,
+                    value,
+                },
+            );
+            self.add_rail(
+                rails,
+                Rail {
+                    faulty: false,
+                    dff,
+                    value,
+                },
+            );
         }
+    }
+
+    // A rail by its variable.
+    fn add_rail(&mut self, rails: &Rails<'_>, rail: Rail)
+        requires { rail.dff < length rails.now.circuit.dffs }
+    {
+        write(&mut self.rails, rails.held(rail).variable, Some(rail));
     }
 
     /// The rail of a latch that a variable is, if it is one.
     pub fn rail(&self, variable: u32) -> Option<Rail> {
         self.rails.get(variable as usize).copied().flatten()
-    }
-
-    /// How many variables there are up to the last rail.
-    pub fn len(&self) -> usize {
-        self.rails.len()
     }
 
     /// A cube of variables as a cube of rails.

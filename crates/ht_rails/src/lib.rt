@@ -15,6 +15,6 @@ mod latch_rails;
 mod problem;
 
 pub use clauses::literals_of;
-pub use costs::Costs;
+pub use costs::{Cost, Costs};
 pub use latch_rails::{LatchRails, candidate};
 pub use problem::problem_of;

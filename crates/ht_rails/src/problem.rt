@@ -2,9 +2,9 @@
 ghost use Rattle.std.specs.Prelude.{◌<◌, length};
 
 use crate::clauses::all_literals;
-use crate::costs::Costs;
+use crate::costs::{Cost, Costs};
 use crate::latch_rails::{LatchRails, write};
-use ht_cubes::{Rail, Rails, SignedVar};
+use ht_cubes::{Rail, Rails, Signal, SignedVar};
 use ht_net::NetId;
 use ht_reach::{Difference, InputBit, Problem, Source};
 use ht_tern::Tern;
@@ -28,24 +28,33 @@ fn has_rail(start: &[Tern], rail: Rail) -> bool {
 }
 
 // The variables of the rails, with the numbers that they have in the formula; no rail is 0.
-fn add_variables(
-    problem: &mut Problem,
-    rails: &Rails<'_>,
-    costs: &Costs,
-) -> Result<(), AllocError> {
+fn add_variables(problem: &mut Problem, rails: &Rails<'_>) -> Result<(), AllocError> {
     for _variable in 0..=rails.last_variable() {
         problem.add_variable(0)?;
     }
+    Ok(())
+}
+
+// What the rails of a line cost.
+fn add_cost(problem: &mut Problem, line: Signal, cost: Cost) {
+    write(&mut problem.costs, line.zero.variable, cost.zero);
+    write(&mut problem.costs, line.one.variable, cost.one);
+}
+
+// What the rails of all nets cost.
+fn add_costs(problem: &mut Problem, rails: &Rails<'_>, costs: &Costs) {
     let circuit = rails.circuit();
     for x in 0..circuit.nets() {
         let cost = costs.of(NetId(x));
-        for faulty in [false, true] {
-            let driver = rails.driver(faulty, x);
-            write(&mut problem.costs, driver.zero.variable, cost.zero);
-            write(&mut problem.costs, driver.one.variable, cost.one);
-        }
+        add_cost(problem, rails.driver(false, x), cost);
+        add_cost(problem, rails.driver(true, x), cost);
     }
-    Ok(())
+}
+
+// The input and the bit that a variable says.
+fn add_input(problem: &mut Problem, signed: SignedVar, input: u32, value: bool) {
+    let bit = InputBit { input, value };
+    write(&mut problem.inputs, signed.variable, Some(bit));
 }
 
 // Which variables are inputs: those of the good machine, since loads of a stuck input see the stuck value.
@@ -53,14 +62,8 @@ fn add_inputs(problem: &mut Problem, rails: &Rails<'_>) {
     let circuit = rails.circuit();
     for input in 0..circuit.inputs() {
         let driver = rails.driver(false, input);
-        for value in [false, true] {
-            let signed = if value { driver.one } else { driver.zero };
-            write(
-                &mut problem.inputs,
-                signed.variable,
-                Some(InputBit { input, value }),
-            );
-        }
+        add_input(problem, driver.zero, input, false);
+        add_input(problem, driver.one, input, true);
     }
 }
 
@@ -109,7 +112,8 @@ pub fn problem_of(
     start: &[Tern],
 ) -> Result<Problem, AllocError> {
     let mut problem = Problem::new(alloc, rails.circuit().inputs() as usize);
-    add_variables(&mut problem, rails, costs)?;
+    add_variables(&mut problem, rails)?;
+    add_costs(&mut problem, rails, costs);
     add_inputs(&mut problem, rails);
     add_latches(&mut problem, rails, latches, start);
     add_differences(alloc, &mut problem, rails)?;
