@@ -66,7 +66,8 @@ pub cube_is_short : (cube : List Rail) → length cube ≤ 50000 → All (λ (ra
     → IsShortProofLine (cube_text cube)
 cube_is_short cube few small =
     let sizes : All (λ (rail : Rail). length (rail_text rail) ≤ 20) cube =
-    All-weaker (λ (rail : Rail). rail.dff < short_number) (λ (rail : Rail). length (rail_text rail) ≤ 20) rail_size cube small in
+    All-weaker (λ (rail : Rail). rail.dff < short_number) (λ (rail : Rail). length (rail_text rail) ≤ 20)
+    rail_size cube small in
     omega (arith, length-append (codes "never") (flat_map rail_text cube), texts_size rail_text cube sizes, few)
 
 -- a step of few signed variables and hints with short numbers has a short line

@@ -22,6 +22,7 @@ pub record IsDetectingList (c : Netlist) (fault : Fault) (list : Rows) : Type 0 
 -- What is said of a fault holds: cubes and steps refute it from the start and can be written as an entry, or the list
 -- detects it.
 abbrev pub ClosedHolds : Netlist → Fault → List Tern → Closed → Type 0
-ClosedHolds c fault start (Refuted cubes steps) = RefutesByCubes c fault start cubes steps × AreShort cubes steps
+ClosedHolds c fault start (Refuted cubes steps) =
+    RefutesByCubes c fault start cubes steps × AreShort cubes steps
 ClosedHolds c fault start (Detected list) = IsDetectingList c fault list
 ClosedHolds c fault start Open = Unit {0}

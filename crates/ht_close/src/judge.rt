@@ -75,8 +75,8 @@ fn judge_whole(
     }
 }
 
-/// What a serial run says of vectors from all-unknown: where they don't detect the fault, it stays open. What stands after
-/// the vector that detects it is left out.
+/// What a serial run says of vectors from all-unknown: where they don't detect the fault, it stays open. What stands
+/// after the vector that detects it is left out.
 ///
 /// # Errors
 /// Out of memory.

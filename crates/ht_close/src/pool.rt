@@ -8,8 +8,8 @@ use std::alloc::{AllocError, Global};
 // A pool takes no more.
 const MAX_POOL_CUBES: usize = 4096;
 
-/// Cubes that refuted faults of one circuit: later ones are tried with them first. A cube of the good machine alone that
-/// never comes about for one fault never does for another.
+/// Cubes that refuted faults of one circuit: later ones are tried with them first. A cube of the good machine alone
+/// that never comes about for one fault never does for another.
 #[derive(Drop)]
 pub struct Pool {
     alloc: Global,

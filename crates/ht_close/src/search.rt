@@ -152,9 +152,9 @@ fn decide(
     }
 }
 
-/// Closes a fault, if it can: cubes and steps that refute it from the start, or a list that detects it from all-unknown,
-/// each judged before it is said. The budget is a number of propagations, and as many conflicts, of each search and of
-/// the steps. The cubes of a refutation join the pool.
+/// Closes a fault, if it can: cubes and steps that refute it from the start, or a list that detects it from
+/// all-unknown, each judged before it is said. The budget is a number of propagations, and as many conflicts, of each
+/// search and of the steps. The cubes of a refutation join the pool.
 ///
 /// # Errors
 /// Out of memory, or 2^32 or more that stands in clauses.

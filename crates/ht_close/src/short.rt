@@ -107,8 +107,8 @@ fn are_short_steps(steps: &[ClauseStep]) -> bool
     true
 }
 
-/// Whether an entry by cubes and steps can be written, if it passes: there is a cube, and no line is too long. Lines near
-/// the limit are said to be too long.
+/// Whether an entry by cubes and steps can be written, if it passes: there is a cube, and no line is too long. Lines
+/// near the limit are said to be too long.
 pub fn are_short(cubes: &[Cube], steps: &[ClauseStep]) -> bool
     ensures { IsTrue result → AreShort cubes.now steps.now }
 {

@@ -4,8 +4,8 @@ use ht_items::FlatRows;
 use ht_solver::Literal;
 use std::alloc::{AllocError, Global};
 
-/// The literals of a clause, each once: a gate may read a net at two pins. Variables have the numbers of the formula; one
-/// that is too great for a literal is left out.
+/// The literals of a clause, each once: a gate may read a net at two pins. Variables have the numbers of the formula;
+/// one that is too great for a literal is left out.
 ///
 /// # Errors
 /// Out of memory.

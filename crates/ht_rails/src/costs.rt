@@ -52,8 +52,9 @@ fn sum(a: u32, b: u32) -> u32 {
     a.saturating_add(b).min(MAX_COST)
 }
 
-/// What it costs to bring each net of a circuit to a value, in the manner of SCOAP's controllabilities (L. H. Goldstein,
-/// E. L. Thigpen, 1980): 1 for an input, 100 for what a flip-flop holds, and for a gate 1 more than its pins need.
+/// What it costs to bring each net of a circuit to a value, in the manner of SCOAP's controllabilities (L. H.
+/// Goldstein, E. L. Thigpen, 1980): 1 for an input, 100 for what a flip-flop holds, and for a gate 1 more than its
+/// pins need.
 #[derive(Drop)]
 pub struct Costs {
     // by net

@@ -86,8 +86,8 @@ impl LatchRails {
     }
 }
 
-/// A cube of rails as a cube of variables, for another fault of the circuit. Outside the fault's cone the faulty machine
-/// has the rails of the good one.
+/// A cube of rails as a cube of variables, for another fault of the circuit. Outside the fault's cone the faulty
+/// machine has the rails of the good one.
 ///
 /// # Errors
 /// Out of memory.
