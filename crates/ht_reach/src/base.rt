@@ -17,6 +17,20 @@ pub struct Base {
     pub shown: Vec<Option<Literal>>,
 }
 
+fn add_variables(solver: &mut Solver, costs: &[u32]) -> Result<(), AllocError> {
+    for cost in costs {
+        solver.add_variable(*cost)?;
+    }
+    Ok(())
+}
+
+fn add_clauses(solver: &mut Solver, clauses: &[Vec<Literal>]) -> Result<(), AllocError> {
+    for clause in clauses {
+        solver.add_support(clause)?;
+    }
+    Ok(())
+}
+
 // A variable is true only where a source is.
 fn add_source(solver: &mut Solver, literal: Literal, source: Source) -> Result<(), AllocError> {
     match source {
@@ -40,12 +54,8 @@ impl Base {
     /// Out of memory.
     pub fn new(alloc: Global, problem: &Problem) -> Result<Base, AllocError> {
         let mut solver = Solver::new(alloc, false);
-        for cost in &problem.costs {
-            solver.add_variable(*cost)?;
-        }
-        for clause in &problem.clauses {
-            solver.add_support(clause)?;
-        }
+        add_variables(&mut solver, &problem.costs)?;
+        add_clauses(&mut solver, &problem.clauses)?;
         let mut base = Base {
             solver,
             differs: None,

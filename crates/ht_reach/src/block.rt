@@ -51,18 +51,9 @@ impl Search<'_> {
 
     // The rails of a cube, first those that conflicts of a frame's solver met least.
     fn least_active(&self, cube: &Cube, frame: usize) -> Result<Vec<u32>, AllocError> {
-        let mut weighed = Vec::with_capacity(self.alloc, cube.variables().len())?;
-        for variable in cube.variables() {
-            let activity = match self.frames.get(frame) {
-                Some(frame) => frame.solver.activity(*variable),
-                None => 0,
-            };
-            weighed.push((activity, *variable))?;
-        }
-        weighed.sort_unstable();
-        let mut rails = Vec::with_capacity(self.alloc, weighed.len())?;
-        for (_, variable) in &weighed {
-            rails.push(*variable)?;
+        let mut rails = Vec::from_slice(self.alloc, cube.variables())?;
+        if let Some(frame) = self.frames.get(frame) {
+            rails.sort_by_key(|variable| frame.solver.activity(*variable))?;
         }
         Ok(rails)
     }

@@ -3,7 +3,7 @@ use ht_solver::Literal;
 use std::alloc::{AllocError, Global};
 
 /// What makes a rail of a latch hold in the next frame, or a side of a difference show.
-#[derive(Clone, Copy, PartialEq, Eq, Debug)]
+#[derive(Clone, Copy, PartialEq, Eq)]
 pub enum Source {
     /// Nothing does.
     Never,
@@ -14,7 +14,7 @@ pub enum Source {
 }
 
 /// An input and its bit.
-#[derive(Clone, Copy, PartialEq, Eq, Debug)]
+#[derive(Clone, Copy)]
 pub struct InputBit {
     /// The input, from 0.
     pub input: u32,
@@ -23,7 +23,7 @@ pub struct InputBit {
 }
 
 /// Two sources that show a difference at an output where both are true in one frame.
-#[derive(Clone, Copy, PartialEq, Eq, Debug)]
+#[derive(Clone, Copy)]
 pub struct Difference {
     /// The one of the good machine.
     pub good: Source,

@@ -28,6 +28,13 @@ pub enum Reached {
     GivenUp,
 }
 
+fn push_copies(all: &mut Vec<Cube>, cubes: &[Cube]) -> Result<(), AllocError> {
+    for cube in cubes {
+        all.push(cube.clone()?)?;
+    }
+    Ok(())
+}
+
 impl Search<'_> {
     // Tries the cubes of a pool: a refutation by them alone where there is one. Else what stands of them is forbidden in
     // every frame.
@@ -132,8 +139,8 @@ impl Search<'_> {
     fn cubes_after(&self, frame: usize) -> Result<Vec<Cube>, AllocError> {
         let mut all = self.known.clone()?;
         for later in frame.saturating_add(1)..self.frames.len() {
-            for cube in &self.cubes_of(later)? {
-                all.push(cube.clone()?)?;
+            if let Some(frame) = self.frames.get(later) {
+                push_copies(&mut all, &frame.cubes)?;
             }
         }
         Ok(all)

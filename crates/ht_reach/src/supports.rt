@@ -15,10 +15,7 @@ impl Supports {
     /// # Errors
     /// Out of memory.
     pub fn new(alloc: Global, problem: &Problem) -> Result<Supports, AllocError> {
-        let mut rows: Vec<Vec<u32>> = Vec::with_capacity(alloc, problem.costs.len())?;
-        for _ in 0..problem.costs.len() {
-            rows.push(Vec::new(alloc))?;
-        }
+        let mut rows = empty_rows(alloc, problem.costs.len())?;
         let mut number = 0u32;
         for clause in &problem.clauses {
             if let Some(variable) = supported_by(clause)
@@ -38,6 +35,14 @@ impl Supports {
             None => &[],
         }
     }
+}
+
+fn empty_rows(alloc: Global, count: usize) -> Result<Vec<Vec<u32>>, AllocError> {
+    let mut rows = Vec::with_capacity(alloc, count)?;
+    for _ in 0..count {
+        rows.push(Vec::new(alloc))?;
+    }
+    Ok(rows)
 }
 
 // The variable that a clause supports: that of its only negative literal, where there are others.

@@ -4,7 +4,7 @@ use crate::literal::{Literal, Value};
 use std::alloc::{AllocError, Global};
 
 /// Where a clause stands in the arena.
-#[derive(Clone, Copy, PartialEq, Eq, Debug)]
+#[derive(Clone, Copy, PartialEq, Eq)]
 pub struct ClauseRef(pub(crate) u32);
 
 // The cells before a clause's literals: how many literals it has, its number, and how much it was used.

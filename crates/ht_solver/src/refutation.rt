@@ -29,13 +29,18 @@ fn needed_numbers(alloc: Global, lemmas: &[Lemma]) -> Result<Vec<bool>, AllocErr
     Ok(marks)
 }
 
-// By number: how many given clauses there are up to it, which is the number of a given clause without the lemmas.
-fn given_numbers(alloc: Global, lemmas: &[Lemma], count: usize) -> Result<Vec<u32>, AllocError> {
+// By number: whether it is a lemma's.
+fn lemma_numbers(alloc: Global, lemmas: &[Lemma], count: usize) -> Result<Vec<bool>, AllocError> {
     let mut is_lemma = vec![in alloc; false; count]?;
     for lemma in lemmas {
         mark_all(&mut is_lemma, &[lemma.number]);
     }
-    let mut numbers = Vec::with_capacity(alloc, count)?;
+    Ok(is_lemma)
+}
+
+// By number: how many given clauses there are up to it, which is the number of a given clause without the lemmas.
+fn given_numbers(alloc: Global, is_lemma: &[bool]) -> Result<Vec<u32>, AllocError> {
+    let mut numbers = Vec::with_capacity(alloc, is_lemma.len())?;
     let mut given = 0u32;
     for (number, is_lemma) in is_lemma.iter().enumerate() {
         if number > 0 && !*is_lemma {
@@ -61,7 +66,8 @@ fn renumbered(alloc: Global, numbers: &[u32], hints: &[u32]) -> Result<Vec<u32>,
 /// Out of memory.
 pub fn needed(alloc: Global, lemmas: &[Lemma], given: u32) -> Result<Vec<Lemma>, AllocError> {
     let marks = needed_numbers(alloc, lemmas)?;
-    let mut numbers = given_numbers(alloc, lemmas, marks.len())?;
+    let is_lemma = lemma_numbers(alloc, lemmas, marks.len())?;
+    let mut numbers = given_numbers(alloc, &is_lemma)?;
     let mut kept = Vec::new(alloc);
     let mut last = given;
     for lemma in lemmas {

@@ -83,13 +83,24 @@ impl State {
     fn sorted(&self, literals: &[Literal]) -> Result<Vec<Literal>, AllocError> {
         let mut sorted = Vec::with_capacity(self.alloc, literals.len())?;
         for wanted in [Value::True, Value::Open, Value::False] {
-            for literal in literals {
-                if self.assigned.value(*literal) == wanted {
-                    sorted.push(*literal)?;
-                }
-            }
+            self.push_those(&mut sorted, literals, wanted)?;
         }
         Ok(sorted)
+    }
+
+    // Adds those of a value.
+    fn push_those(
+        &self,
+        sorted: &mut Vec<Literal>,
+        literals: &[Literal],
+        wanted: Value,
+    ) -> Result<(), AllocError> {
+        for literal in literals {
+            if self.assigned.value(*literal) == wanted {
+                sorted.push(*literal)?;
+            }
+        }
+        Ok(())
     }
 
     fn value_at(&self, literals: &[Literal], at: usize) -> Value {
