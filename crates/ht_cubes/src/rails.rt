@@ -33,7 +33,8 @@ impl<'a> Model for Rails<'a> {
 
     ghost Value = { RailsView };
 
-    ghost view = { λ a. record { circuit = a.circuit.now; fault = a.fault; marks = a.marks.items } };
+    ghost view = { λ a.
+        record { circuit = a.circuit.now; fault = a.fault; marks = a.marks.items } };
 
     ghost invariant = { λ a. AreConeMarks a.circuit.now a.fault a.marks.items };
 }
@@ -96,7 +97,8 @@ impl<'a> Rails<'a> {
     pub fn held(&self, rail: Rail) -> SignedVar
         requires { rail.dff < length self.now.circuit.dffs }
         ensures { result ≡ rail_of
-            (latch_signal self.now.circuit (marked self.now.marks) rail.faulty rail.dff) rail.value }
+            (latch_signal self.now.circuit (marked self.now.marks) rail.faulty rail.dff)
+            rail.value }
     {
         let net = self.circuit.dff_net(rail.dff);
         self.driver(rail.faulty, net.0).rail(rail.value)
