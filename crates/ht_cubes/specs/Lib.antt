@@ -6,3 +6,4 @@ pub mod Passing
 pub mod Examples
 pub mod Cones
 pub mod Values
+pub mod RailsView

@@ -9,12 +9,13 @@ ghost use Rattle.ht_cubes.specs.Cones.{marked};
 use crate::machines::Machines;
 use crate::targets::{is_constant, push_targets};
 use crate::{Cube, Rows, SignedVar};
+use ht_items::FlatRows;
 use std::alloc::{AllocError, Global};
 
 /// A formula: its clauses, numbered from 1, and the highest variable.
 #[derive(Drop)]
-pub(crate) struct Formula {
-    pub clauses: Rows,
+pub struct Formula {
+    pub clauses: FlatRows<SignedVar>,
     pub last: u32,
 }
 
@@ -36,8 +37,8 @@ fn push_plain(alloc: Global, rows: &mut Rows, clause: &[SignedVar]) -> Result<()
     rows.push(&plain)
 }
 
-// The clauses without constants.
-fn without_constants(alloc: Global, clauses: &Rows) -> Result<Rows, AllocError>
+/// The clauses without constants.
+pub(crate) fn without_constants(alloc: Global, clauses: &Rows) -> Result<Rows, AllocError>
     ensures { IfOk result (λ rows. rows ≡ flat_map without_constants clauses.now) }
 {
     let mut rows = Rows::new(alloc);

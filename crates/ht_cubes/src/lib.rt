@@ -6,7 +6,7 @@
 //! cubes, some cube comes about or some output differs. `refuted` builds it once and follows the steps of a proof, each
 //! with hints, as in LRAT: no search, one pass, each hint looked at once. It says yes exactly where cubes and steps pass
 //! (`specs/Passing.antt`), and then no list of vectors of any length detects the fault, from the start or from
-//! all-unknown (`passing_cubes_exclude_detection`).
+//! all-unknown (`passing_cubes_exclude_detection`). `Rails` gives the same clauses to those who search for cubes.
 //!
 //! `cone` finds the nets that differ at all, and `machines` has them with the circuit and the fault. `lines`, `gates`,
 //! `parity`, `frame` and `targets` make the parts of the formula, `standing` and `steps` follow the proof.
@@ -22,6 +22,7 @@ mod lines;
 mod machines;
 mod parity;
 mod rail;
+mod rails;
 mod refutation;
 mod signal;
 mod signed_var;
@@ -31,7 +32,9 @@ mod targets;
 mod theorems;
 
 pub use clause_step::ClauseStep;
+pub use formula::Formula;
 pub use rail::{Cube, Rail};
+pub use rails::Rails;
 pub use refutation::refuted;
 pub use signal::Signal;
 use signed_var::Rows;

@@ -43,8 +43,8 @@ fn is_known_cube(circuit: &Circuit, cone: &[bool], cube: &[Rail]) -> bool
     true
 }
 
-// Whether all rails of cubes are known.
-fn are_known(circuit: &Circuit, cone: &[bool], cubes: &[Cube]) -> bool
+/// Whether all rails of cubes are known.
+pub(crate) fn are_known(circuit: &Circuit, cone: &[bool], cubes: &[Cube]) -> bool
     requires { length cone.now ≡ net_count circuit.now }
     ensures { IsTrue result ↔ All (All (IsKnownRail circuit.now (marked cone.now))) cubes.now }
 {

@@ -1,0 +1,2 @@
+pub mod ClosedFaults
+pub mod ShortLines
