@@ -1,5 +1,5 @@
 //! What bursts promise of faults, and how often it was false.
-use crate::trace::Paths;
+use crate::paths::Paths;
 use std::alloc::{AllocError, Global};
 
 // A fault is looked at while its false hopes are fewer, and that it is stored counts while these are.

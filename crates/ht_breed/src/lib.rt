@@ -5,7 +5,7 @@
 //! the manner of critical path tracing (M. Abramovici, P. R. Menon, D. T. Miller, "Critical Path Tracing: An Alternative
 //! to Fault Simulation", 1983). So each candidate has an estimate: the faults that it detects, those whose effect comes to
 //! a flip-flop, the values that nets show for the first time, the flip-flops that get a definite value (`estimate`).
-//! Generations of candidates are bred by these estimates (`candidates`), as in CRIS (D. G. Saab, Y. G. Saab, J. A.
+//! Candidates are drawn (`fresh`), and generations bred by these estimates (`children`), as in CRIS (D. G. Saab, Y. G. Saab, J. A.
 //! Abraham, 1992) and GATEST (E. M. Rudnick and others, 1994), which simulate faults for each candidate. Vectors of
 //! bursts that detected something are material for later ones (`kept`), as the stored sequences of STRATEGATE (M. S.
 //! Hsiao, E. M. Rudnick, J. H. Patel, 1997).
@@ -20,11 +20,15 @@ mod breeding;
 mod burst;
 mod candidates;
 mod chance;
+mod children;
 mod counter;
 mod estimate;
+mod fresh;
 mod gates;
 mod hopes;
 mod kept;
+mod paths;
+mod pins;
 mod plan;
 mod runs;
 mod trace;

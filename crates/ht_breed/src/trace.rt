@@ -1,43 +1,19 @@
 //! Sensitized paths, traced back over the frames of a burst in 64 lanes.
-use crate::gates::{open_lanes, word_at};
+use crate::gates::word_at;
+use crate::paths::{NO_PATHS, Paths};
+use crate::pins::{trace_pins, within};
 use crate::plan::{Plan, PlanFault, PlanGate, PlanSite};
 use crate::runs::Runs;
 use ht_lanes::Word;
-use ht_tern::{Kind, Tern};
+use ht_tern::Tern;
 use std::alloc::{AllocError, Global};
-
-/// The lanes in which a sensitized path leads from a line to an output, in its frame or a later one, and to a flip-flop
-/// after the last frame.
-#[derive(Clone, Copy)]
-pub struct Paths {
-    pub output: u64,
-    pub end: u64,
-}
-
-impl Paths {
-    pub const NONE: Paths = Paths { output: 0, end: 0 };
-
-    #[inline(always)]
-    fn is_none(self) -> bool {
-        self.output | self.end == 0
-    }
-
-    // In a set of lanes alone.
-    #[inline(always)]
-    fn within(self, lanes: u64) -> Paths {
-        Paths {
-            output: self.output & lanes,
-            end: self.end & lanes,
-        }
-    }
-}
 
 // The paths of a number in a list, none where it isn't there.
 #[inline(always)]
 fn paths_at(paths: &[Paths], i: usize) -> Paths {
     match paths.get(i) {
         Some(paths) => *paths,
-        None => Paths::NONE,
+        None => NO_PATHS,
     }
 }
 
@@ -47,73 +23,6 @@ fn unite(all: &mut [Paths], i: usize, paths: Paths) {
     if let Some(place) = all.get_mut(i) {
         place.output |= paths.output;
         place.end |= paths.end;
-    }
-}
-
-// Writes the paths of the pins of a gate with these paths, and adds them to those of the nets.
-#[inline(always)]
-fn trace_gate(
-    kind: Kind,
-    nets: &[u32],
-    words: &[Word],
-    paths: Paths,
-    by_net: &mut [Paths],
-    by_pin: &mut [Paths],
-) {
-    if by_pin.len() != nets.len() {
-        return;
-    }
-    if paths.is_none() {
-        by_pin.fill(Paths::NONE);
-    } else if nets.len() == 1 {
-        by_pin[0] = paths;
-        unite(by_net, nets[0] as usize, paths);
-    } else if nets.len() == 2 {
-        let first = paths.within(open_lanes(kind, word_at(words, nets[1])));
-        let second = paths.within(open_lanes(kind, word_at(words, nets[0])));
-        by_pin[0] = first;
-        by_pin[1] = second;
-        unite(by_net, nets[0] as usize, first);
-        unite(by_net, nets[1] as usize, second);
-    } else {
-        leave_earlier_open(kind, nets, words, paths, by_pin);
-        leave_later_open(kind, nets, words, by_net, by_pin);
-    }
-}
-
-// The paths of a gate in the lanes in which all earlier pins are open, for each pin.
-fn leave_earlier_open(
-    kind: Kind,
-    nets: &[u32],
-    words: &[Word],
-    paths: Paths,
-    by_pin: &mut [Paths],
-) {
-    let mut left = paths;
-    for i in 0..nets.len() {
-        if i < by_pin.len() {
-            by_pin[i] = left;
-        }
-        left = left.within(open_lanes(kind, word_at(words, nets[i])));
-    }
-}
-
-// Each pin's paths in the lanes in which all later pins are open, which are then added to those of the nets.
-fn leave_later_open(
-    kind: Kind,
-    nets: &[u32],
-    words: &[Word],
-    by_net: &mut [Paths],
-    by_pin: &mut [Paths],
-) {
-    let mut open = u64::MAX;
-    for i in (0..nets.len()).rev() {
-        if i < by_pin.len() {
-            let paths = by_pin[i].within(open);
-            by_pin[i] = paths;
-            unite(by_net, nets[i] as usize, paths);
-        }
-        open &= open_lanes(kind, word_at(words, nets[i]));
     }
 }
 
@@ -135,9 +44,9 @@ impl Trace {
     /// Out of memory.
     pub fn new(alloc: Global, plan: &Plan) -> Result<Trace, AllocError> {
         Ok(Trace {
-            by_net: vec![in alloc; Paths::NONE; plan.nets()]?,
-            by_pin: vec![in alloc; Paths::NONE; plan.pins.len()]?,
-            by_data: vec![in alloc; Paths::NONE; plan.data.len()]?,
+            by_net: vec![in alloc; NO_PATHS; plan.nets()]?,
+            by_pin: vec![in alloc; NO_PATHS; plan.pins.len()]?,
+            by_data: vec![in alloc; NO_PATHS; plan.data.len()]?,
             found: Vec::new(alloc),
         })
     }
@@ -159,7 +68,7 @@ impl Trace {
         looked: &[u32],
     ) -> Result<(), AllocError> {
         self.found.clear();
-        self.found.resize(looked.len(), Paths::NONE)?;
+        self.found.resize(looked.len(), NO_PATHS)?;
         self.by_data.fill(Paths {
             output: 0,
             end: u64::MAX,
@@ -196,7 +105,7 @@ impl Trace {
             if let Some(fault) = faults.get(*number as usize) {
                 let (net, paths) = self.line(plan, fault.site);
                 let lanes = word_at(words, net).opposite(Tern::from(fault.value));
-                unite(&mut self.found, i, paths.within(lanes));
+                unite(&mut self.found, i, within(paths, lanes));
             }
         }
     }
@@ -204,7 +113,7 @@ impl Trace {
 
 // The paths of the nets before any gate: those of outputs and of data pins.
 fn start_frame(plan: &Plan, by_data: &[Paths], by_net: &mut [Paths]) {
-    by_net.fill(Paths::NONE);
+    by_net.fill(NO_PATHS);
     for net in &plan.outputs {
         unite(
             by_net,
@@ -231,13 +140,13 @@ fn trace_gates(plan: &Plan, words: &[Word], by_net: &mut [Paths], by_pin: &mut [
     for i in (0..plan.gates.len()).rev() {
         let gate = plan.gates[i];
         let paths = paths_at(by_net, first.saturating_add(i));
-        trace_pins(plan, gate, words, paths, by_net, by_pin);
+        trace_gate(plan, gate, words, paths, by_net, by_pin);
     }
 }
 
-// The same for one gate.
+// The paths of the pins of a gate with these paths, which are added to those of the nets.
 #[inline(always)]
-fn trace_pins(
+fn trace_gate(
     plan: &Plan,
     gate: PlanGate,
     words: &[Word],
@@ -246,8 +155,19 @@ fn trace_pins(
     by_pin: &mut [Paths],
 ) {
     let nets = plan.nets_of(gate);
-    if let Some(pins) = by_pin.get_mut(gate.begin..gate.end) {
-        trace_gate(gate.kind, nets, words, paths, by_net, pins);
+    if let Some(pins) = by_pin.get_mut(gate.begin..gate.end)
+        && pins.len() == nets.len()
+    {
+        trace_pins(gate.kind, nets, words, paths, pins);
+        unite_pins(nets, pins, by_net);
+    }
+}
+
+// Adds the paths of pins to those of their nets.
+#[inline(always)]
+fn unite_pins(nets: &[u32], pins: &[Paths], by_net: &mut [Paths]) {
+    for (i, net) in nets.iter().enumerate() {
+        unite(by_net, *net as usize, paths_at(pins, i));
     }
 }
 
