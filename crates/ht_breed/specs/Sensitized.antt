@@ -53,7 +53,8 @@ AreTracedByEarlier kind words output pins = (i : ℕ) → i < length words
 -- Each pin has the paths that it had, in the lanes in which all pins after it let an effect through.
 abbrev pub AreTracedByLater : Kind → List Lanes → List Paths → List Paths → Type 0
 AreTracedByLater kind words old pins = (i : ℕ) → i < length words
-    → HasPaths (pin_paths old i) (λ k. all_through kind (drop (i + 1) (values_in k words))) (pin_paths pins i)
+    → HasPaths (pin_paths old i)
+    (λ k. all_through kind (drop (i + 1) (values_in k words))) (pin_paths pins i)
 
 -- Each pin of a gate has the paths of its output, in the lanes in which the gate lets an effect at the pin through, by
 -- the words at its pins.
