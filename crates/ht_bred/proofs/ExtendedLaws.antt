@@ -6,8 +6,8 @@ use Rattle.ht_proofs.specs.ClassGraderView.{ClassGraderStandsFor, ClassGraderVie
 use Rattle.ht_bred.specs.Extended.{AreExtended}
 
 -- nothing is added
-pub extended_by_none : (g : ClassGraderView) (list : Rows) → AreExtended g g list.list list list 0
-extended_by_none g list = record {
+pub by_none : (g : ClassGraderView) (list : Rows) → AreExtended g g list.list list list 0
+by_none g list = record {
   circuit = refl;
   classes = refl;
   inputs = refl;
@@ -18,10 +18,10 @@ extended_by_none g list = record {
 }
 
 -- vectors are added twice
-pub extended_twice : (f g h : ClassGraderView) (graded : List (List Bool)) (first second third : Rows) (m n : ℕ)
+pub twice : (f g h : ClassGraderView) (graded : List (List Bool)) (first second third : Rows) (m n : ℕ)
     → AreExtended f g graded first second m → AreExtended g h second.list second third n
     → AreExtended f h graded first third (m + n)
-extended_twice f g h graded first second third m n once again = record {
+twice f g h graded first second third m n once again = record {
   circuit = again.circuit ∙ once.circuit;
   classes = again.classes ∙ once.classes;
   inputs = again.inputs ∙ once.inputs;

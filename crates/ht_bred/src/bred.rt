@@ -90,7 +90,7 @@ fn breed_burst(
 }
 
 // Breeds bursts until there are so many vectors, or no representative is left. How many vectors there are.
-#[tactic(auto, using(crate::proofs::ExtendedLaws::extended_by_none, crate::proofs::ExtendedLaws::extended_twice))]
+#[tactic(auto, using(crate::proofs::ExtendedLaws::by_none, crate::proofs::ExtendedLaws::twice))]
 fn breed_bursts(
     alloc: Global,
     classes: &Classes,
