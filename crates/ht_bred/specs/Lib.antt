@@ -1,0 +1,2 @@
+pub mod Bred
+pub mod Extended

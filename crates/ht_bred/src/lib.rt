@@ -1,0 +1,13 @@
+//! Given vectors and then bred ones, graded.
+//!
+//! `bred_vectors` applies vectors to the representatives of all classes of faults, breeds one burst after the other from
+//! the state of the good machine (ht_breed), and applies each. All are graded by the simulator (ht_proofs), so what is
+//! said of them is what it proves, whatever was bred. The same circuit, vectors, count and seed give the same vectors: no
+//! clock is read.
+#![tactic(auto)]
+
+mod bred;
+mod live;
+mod vectors;
+
+pub use bred::{Bred, bred_vectors};
