@@ -4,7 +4,7 @@ use Rattle.std.specs.Prelude.{option_and_then, option_map, slice_get}
 use Rattle.clap.specs.Walk.{Row, Text, first_of}
 use Rattle.clap.specs.Simple.{App, matches_of}
 use Rattle.ht_asked.specs.Forms.{given}
-use Rattle.ht_asked.specs.Asked.{Command, asked, command_named, words_of}
+use Rattle.ht_asked.specs.Commands.{Command, asked, command_named, words_of}
 use Rattle.ht_asked.specs.ByClap.{app_with, asked_by_clap, asked_in_rows, command_by_clap, given_by_clap, given_values, is_taken, value_of}
 use Rattle.ht_asked.proofs.AskedByClap.{asked_is_by_clap}
 

@@ -1,5 +1,6 @@
 pub mod Forms
 pub mod Numbers
 pub mod Asked
+pub mod Commands
 pub mod Ranges
 pub mod ByClap

@@ -1,12 +1,13 @@
 -- The first trouble of a report that is read line by line.
 use Rattle.std.proofs.Common.{◌≡◌, ◌⊎◌, ◌^◌, inl, inr, ℕ, zero, suc, ◌+◌, ◌-◌, ◌<◌, ◌≤◌, List, [], ◌∷◌, ◌++◌, Bool, true, false, length, take, get_or, Some, refl, sym, ◌∙◌, ap, subst, arith, Option}
-use Rattle.std.specs.Prelude.{if◌then◌else◌}
+use Rattle.std.specs.Prelude.{None, if◌then◌else◌}
 use Rattle.std.proofs.lemmas.Bool.{cases_lt}
 use Rattle.std.proofs.lemmas.List.{length-append}
 use Rattle.std.proofs.Math.Seq.{get_or-append_seam}
 use Rattle.ht_inputs.proofs.Common.{AreClasses, AreFine, Denied, DeskView, HasFront, HasLines, HasLongLine, IsFirst}
 use Rattle.ht_inputs.proofs.Common.{IsRefusedFor, JobBasis, JudgeError, LinesStop, ReadStops, ReportIsRead, RunError}
-use Rattle.ht_inputs.proofs.Common.{Said, StandsForFile, StandsForReport, StopsAtLine, Tern, WasRead, check}
+use Rattle.ht_inputs.proofs.Common.{Said, StandsForFile, StandsForReport, StopsAtLine, Tern, WasRead, Asked}
+use Rattle.ht_inputs.specs.Jobs.{judges}
 use Rattle.ht_inputs.proofs.Common.{judged_error_of, lines_of}
 use Rattle.ht_ports.specs.declared.ports.InPort.TheVariants as in_port
 use Rattle.ht_net.specs.Circuit.Netlist.{Netlist, IsCircuit}
@@ -188,16 +189,17 @@ module _ (basis : JobBasis) (text : List ℕ) (is : IsCircuit basis.circuit) whe
 
 -- ---- why reading a report ends the run
 
-module _ (netlist tests report proofs : List ℕ) (start : Option (List ℕ)) (name : List ℕ) (basis : JobBasis)
+module _ (job : Asked) (judged : judges job.command ≡ true) (name : List ℕ) (basis : JobBasis)
     (is : IsCircuit basis.circuit) (a b : DeskView)
   where
     abbrev Stops : RunError → Type 0
-    Stops = ReadStops (check netlist tests report proofs start) basis in_port.Report name a b
+    Stops = ReadStops job basis in_port.Report name a b
 
     refuses : (number : ℕ) (IsSo : List ℕ → Type 0) → ((text : List ℕ) → IsSo text
-        → IsRefusedFor (check netlist tests report proofs start) basis (Denied (Report number)) text)
+        → IsRefusedFor job basis (Denied (Report number)) text)
         → WasRead in_port.Report name IsSo a → Stops (Denied (Report number))
-    refuses number IsSo so read = (refl, read_so _ so read)
+    refuses number IsSo so read =
+        (ap (λ (b : Bool). if b then Some in_port.Report else None) judged, read_so _ so read)
 
     -- what stops the lines of a report is why reading the file ends the run
     pub report_stops : {most : ℕ} {e : RunError} → AreClasses basis.circuit basis.representatives

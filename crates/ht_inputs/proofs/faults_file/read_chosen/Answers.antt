@@ -21,9 +21,9 @@ returns-in_ok-read_fault_list-in-Some-clause-read g c = λ job basis first reads
     (c.in_ok-read_fault_list-in-Some.ensures.read basis.circuit count))
 
 pub returns-in_err-read_fault_list-in-Some-clause-stopped : goal.returns-in_err-read_fault_list-in-Some-clause-stopped
-returns-in_err-read_fault_list-in-Some-clause-stopped g c = λ job basis first reads count before.
+returns-in_err-read_fault_list-in-Some-clause-stopped g c = λ job basis first reads count fault before.
     let ends = stops_there before refl (reads ∙ c.in-Some.is ∙ ap Some (sym c.as_str.ensures))
-    c.read_fault_list.ensures.frame (λ is. let same : Faults ≡ Tests = is in cc) _
+    c.read_fault_list.ensures.frame (λ late. fault) _
     (c.in_err-read_fault_list-in-Some.ensures.stops job basis count) in
     search (rules, ends)
 
