@@ -1,5 +1,5 @@
 -- The numbers that words ask for are in their ranges.
-use Rattle.std.proofs.Common.{◌≡◌, ◌≤◌, ◌∷◌, ◌++◌, ◌&&◌, ℕ, Bool, true, false, cond, List, [], Option, Some, None, refl, subst, arith}
+use Rattle.std.proofs.Common.{◌≡◌, ◌≤◌, ◌∷◌, ◌&&◌, ℕ, Bool, true, false, cond, List, [], Option, Some, None, refl, subst, arith}
 use Rattle.std.specs.Prelude.{IfSome, find, map, nat_le, option_and_then, option_map}
 use Rattle.std.specs.Str.{bytes_eq}
 use Rattle.std.specs.Str.Parse.{digits_value}
@@ -11,7 +11,7 @@ use Rattle.ht_asked.specs.Forms.{Given, given}
 use Rattle.ht_asked.specs.Numbers.{is_number, number_in, number_or}
 use Rattle.ht_asked.specs.Asked.{Asked, InNames, Kind, Numbers, OutNames}
 use Rattle.ht_asked.specs.Commands.{Command, Sorted, asked, budget_of, command_of, command_row, deep_of, demo_size, fault_of}
-use Rattle.ht_asked.specs.Commands.{job_said, kinds, numbers_with, random_of, seed_of, sorted}
+use Rattle.ht_asked.specs.Commands.{job_said, kinds, numbers_with, random_of, seed_of, sorted_by}
 use Rattle.ht_asked.specs.Ranges.{IsInRange}
 
 -- ---- numbers
@@ -85,8 +85,7 @@ by_sorted kind (Some texts) = said_in_range kind texts
 
 by_given : (kind : Kind) (o : Option Given) → AsksInRange (option_and_then (command_of kind).asks o)
 by_given kind None = tt
-by_given kind (Some g) = by_sorted kind
-    (sorted ((command_row kind).positionals ++ (command_row kind).options) (map Some g.positionals ++ g.options))
+by_given kind (Some g) = by_sorted kind (sorted_by (command_row kind) g.positionals g.options)
 
 by_found : (test : Command → Bool) (words : List Text) (ks : List Kind) → AsksInRange
     (option_and_then (λ (c : Command). option_and_then c.asks (given c.form words)) (find test (map command_of ks)))

@@ -1,5 +1,5 @@
 -- The table of the commands, a row each, and what the words of the command line ask for by it.
-use Rattle.std.specs.Prelude.{Bool, true, false, if◌then◌else◌, List, [], ◌∷◌, ◌++◌, Option, Some, None, ℕ}
+use Rattle.std.specs.Prelude.{Bool, true, false, if◌then◌else◌, List, [], ◌∷◌, Option, Some, None, ℕ}
 use Rattle.std.specs.Prelude.{codes, find, map, option_and_then, option_map, String, string_bytes}
 use Rattle.std.specs.Global.{Global}
 use Rattle.std.specs.List.{list_any}
@@ -222,11 +222,16 @@ sort_in says_depth text s = record s { numbers = record s.numbers { depth = text
 sort_in says_fault text s = record s { numbers = record s.numbers { fault = text } }
 sort_in says_size text s = record s { numbers = record s.numbers { size = text } }
 
--- the texts of these arguments, in their order, where there is one for each
-abbrev pub sorted : List Argument → List (Option Text) → Option Sorted
-sorted [] [] = Some nothing_sorted
-sorted (argument ∷ arguments) (text ∷ texts) = option_map (sort_in argument.role text) (sorted arguments texts)
-sorted _ _ = None
+-- the texts of these arguments, after others and in their order, where there is one for each
+abbrev pub sorted : Sorted → List Argument → List (Option Text) → Option Sorted
+sorted s [] [] = Some s
+sorted s (argument ∷ arguments) (text ∷ texts) = sorted (sort_in argument.role text s) arguments texts
+sorted s _ _ = None
+
+-- the texts of a command's positionals, and those of its options
+abbrev pub sorted_by : Row → List Text → List (Option Text) → Option Sorted
+sorted_by row positionals options = option_and_then (λ s. sorted s row.options options)
+    (sorted nothing_sorted row.positionals (map Some positionals))
 
 -- the numbers and choices, where each is one
 abbrev pub numbers_with : Option ℕ → Option ℕ → Option ℕ → Option ℕ → Option Bool → Option (Option ℕ) → Option ℕ
@@ -272,8 +277,7 @@ command_of kind = record {
     positionals = argument_names (command_row kind).positionals;
     options = argument_names (command_row kind).options;
   };
-  asks = λ g. option_and_then (job_said kind)
-      (sorted ((command_row kind).positionals ++ (command_row kind).options) (map Some g.positionals ++ g.options));
+  asks = λ g. option_and_then (job_said kind) (sorted_by (command_row kind) g.positionals g.options);
 }
 
 -- the command that has this name, if there is one

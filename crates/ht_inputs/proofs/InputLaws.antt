@@ -349,7 +349,8 @@ say_none (job.Check files start) texts Proofs name status basis stated reads r s
     says_valid texts basis files start stated says r.1
 say_none (job.Report files budget start) texts Proofs name status basis stated reads r says =
     says_justified texts basis files start budget stated says r.1
-say_none j texts Proofs name status basis stated reads r says = cc
+say_none j texts Proofs name status basis stated reads r says =
+    let (c, circuit, (representatives, start, classes, is, none)) = r.1 in none tt
 say_none j texts port name status basis stated reads r says =
     refused_says j texts tt reads r basis (says_netlist j basis texts _ port name reads (omega arith) says)
     (λ p n some less named. says p n (omega (arith, less)) named) (says port name (omega arith) reads)
