@@ -42,7 +42,7 @@ pub total_found : {c : net.Netlist} {representatives : List ℕ} {e new : Engine
     → IsTotalOf c e.settings total
 total_found {c = c} {new = new} total of_c of_r same all found =
     subst (λ (s : Settings). IsTotalOf c s total) same.settings (found all.0 all.1
-    (of_circuit (λ d r. AreFinished d r new.settings all.0) new (same.circuit ∙ of_c)
+        (of_circuit (λ d r. AreFinished d r new.settings all.0) new (same.circuit ∙ of_c)
     (same.representatives ∙ of_r) all.2))
 
 -- ---- what it leaves

@@ -48,7 +48,8 @@ module _ (files : RunFiles) (c : net.Netlist) (settings : Settings) {representat
   }
 
   -- if the acts up to the last step stop by an error, so do the files
-  pub stops_in_steps : {e : RunError} {a b : DeskView} → Tries {A = Unit {0}} (begun_acts files settings steps) (Err e) a b
+  pub stops_in_steps : {e : RunError} {a b : DeskView} → Tries {A = Unit {0}} (begun_acts files settings steps)
+      (Err e) a b
       → WritesAll files c settings (Err e) a b
   stops_in_steps tries =
       record { acts = begun_acts files settings steps; tries = tries; done = tt; stopped = inl steps_written }
@@ -121,7 +122,7 @@ generated {c = c} {representatives = representatives} {old = old} {steps = steps
     let are = subst (λ (s : Settings). AreFinished c representatives s steps) (sym same.settings)
     (of_circuit (λ d r. AreFinished d r old.settings steps) old of_c of_r finished) in
     subst (λ (s : Settings). IsGenerated c s (tests_of steps) (body ++ total) (proofs_of s steps) total) same.settings
-    (reports steps stands are plain tests_fit proofs_fit)
+        (reports steps stands are plain tests_fit proofs_fit)
 
 -- ---- what is permitted
 
@@ -147,7 +148,8 @@ module _ (ports : Ports) (tests : ports.writes Tests ≡ true) (proofs : ports.w
       (made_still Proofs before (step_acts step) of_proofs) steps)
 
   begun_permitted : {files : RunFiles} {c : net.Netlist} {settings : Settings} {acts : List Act}
-      → PermitsAll ports [] (begun_acts files settings []) → WritesSteps files c settings acts → PermitsAll ports [] acts
+      → PermitsAll ports [] (begun_acts files settings []) → WritesSteps files c settings acts
+      → PermitsAll ports [] acts
   begun_permitted {files = files} {settings = settings} first w = subst (PermitsAll ports []) (sym w.acts_are)
       (permits_then ports [] (begun_acts files settings []) (flat_map step_acts w.steps) first
       (steps_permitted (begun_acts files settings []) refl refl w.steps))
@@ -183,7 +185,8 @@ module _ (files : RunFiles) (options : GenOptions) where
       begun_permitted (begun job) refl refl
           ((refl, refl), ((refl, refl), ((refl, refl), ((refl, λ file. refl), tt)))) part,
     ))
-    | inr whole ↦ ends_tries job x inputs w.acts (Err e) w.tries (files_may whole.1) tt (inr (whole.0, (files, refl, whole.1)))
+    | inr whole ↦ ends_tries job x inputs w.acts (Err e) w.tries (files_may whole.1) tt
+        (inr (whole.0, (files, refl, whole.1)))
   ]
 
   -- `gen` reads no file after the list of faults

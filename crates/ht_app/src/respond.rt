@@ -112,7 +112,8 @@ pub fn respond<D: Desk>(
     desk: &mut D,
 ) -> Result<(), RunError>
     requires { IfSome number (λ n. (MIN_FAULT ≤ n) × (n ≤ MAX_FAULT)) }
-    ensures { EndsJob (asked_by (job_of.Respond netlist.now tests.now out.now number start.now)) result
+    ensures { EndsJob (asked_by (job_of.Respond netlist.now tests.now out.now number start.now))
+        result
         (D.view desk.old) (D.view desk.new) }
 {
     let texts = make_texts(alloc, netlist.as_str(), tests.as_str(), number, start, desk)?;

@@ -94,7 +94,8 @@ pub fn simulate<D: Desk>(
     start: &Option<FileName>,
     desk: &mut D,
 ) -> Result<Made, RunError>
-    ensures { (report : List ℕ) → Prepares (asked_by (job_of.Sim netlist.now tests.now report start.now))
+    ensures { (report : List ℕ) → Prepares
+        (asked_by (job_of.Sim netlist.now tests.now report start.now))
         (λ made. file_acts out_port.Report report made.body.items made.total.items) result
         (D.view desk.old) (D.view desk.new) }
 {

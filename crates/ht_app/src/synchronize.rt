@@ -113,7 +113,8 @@ pub fn synchronize<D: Desk>(
     desk: &mut D,
 ) -> Result<(), RunError>
     requires { budget ≤ MAX_BUDGET }
-    ensures { EndsJob (asked_by (job_of.Sync netlist.now tests.now out.now budget)) result (D.view desk.old)
+    ensures { EndsJob (asked_by (job_of.Sync netlist.now tests.now out.now budget)) result
+        (D.view desk.old)
         (D.view desk.new) }
 {
     let texts = make_texts(alloc, netlist.as_str(), budget, desk)?;

@@ -4,7 +4,7 @@ use Rattle.std.specs.Prelude.{find, map, option_and_then}
 use Rattle.std.specs.Str.{bytes_eq}
 use Rattle.ht_asked.specs.Forms.{given}
 use Rattle.ht_asked.specs.Asked.{Asked, Kind}
-use Rattle.ht_asked.specs.Asked.{sim, gen, check, norm, demo, compact, diagnose, uninit, sync, respond, report}
+use Rattle.ht_asked.specs.Asked.{sim}
 use Rattle.ht_asked.specs.Commands.{Command, asked, command_of, kinds, words_of}
 use Rattle.ht_asked.specs.ByClap.{app_with, asked_by_clap, given_by_clap}
 use Rattle.ht_asked.proofs.Readable.{are_readable}
@@ -12,16 +12,7 @@ use Rattle.ht_asked.proofs.FormByClap.{IsSound, form_by_clap}
 
 is_sound : (kind : Kind) → IsSound (command_of kind).form
 is_sound sim = record { differ = refl; few = omega arith }
-is_sound gen = record { differ = refl; few = omega arith }
-is_sound check = record { differ = refl; few = omega arith }
-is_sound norm = record { differ = refl; few = omega arith }
-is_sound demo = record { differ = refl; few = omega arith }
-is_sound compact = record { differ = refl; few = omega arith }
-is_sound diagnose = record { differ = refl; few = omega arith }
-is_sound uninit = record { differ = refl; few = omega arith }
-is_sound sync = record { differ = refl; few = omega arith }
-is_sound respond = record { differ = refl; few = omega arith }
-is_sound report = record { differ = refl; few = omega arith }
+is_sound kind = record { differ = refl; few = omega arith }
 
 -- two answers that are the same for each of the commands are so for the one that is found
 same_found : (f g : Command → Option Asked) → ((kind : Kind) → f (command_of kind) ≡ g (command_of kind))

@@ -1,6 +1,6 @@
 -- Texts that a job refuses say no basis, and are refused with one status.
 use Rattle.std.proofs.Common.{◌≡◌, ◌≢◌, ◌⊎◌, inl, inr, ℕ, ◌+◌, ◌<◌, ◌≤◌, Bool, true, false, List, [], length, refl, sym, ◌∙◌, ap, subst, arith}
-use Rattle.std.specs.Prelude.{Some, Option, None, if◌then◌else◌}
+use Rattle.std.specs.Prelude.{IsSome, Some, Option, None, if◌then◌else◌}
 use Rattle.std.proofs.lemmas.Bool.{cases_lt}
 use Rattle.ht_inputs.proofs.Common.{AreClasses, Asked, BadResponses, BadTests, Denied, DeskView, Extra, InPort}
 use Rattle.ht_inputs.proofs.Common.{IsGoodNetlist, IsInput, IsMalformedTest, IsRefusedFor, IsTestText, JobBasis}
@@ -69,25 +69,25 @@ netlist_first starts Netlist is = absurd is
 netlist_first starts Report is = absurd is
 netlist_first starts Proofs is = absurd is
 
-demo_reads_none : (size seed : ℕ) (port : InPort) → input_name (asked_by (job.Demo size seed)) port ≡ None
+-- `demo` reads no file
+pub demo_reads_none : (size seed : ℕ) (port : InPort) → input_name (asked_by (job.Demo size seed)) port ≡ None
 demo_reads_none size seed Netlist = refl
 demo_reads_none size seed port = refl
+
+some_name : (file : Option (List ℕ)) → IsSome file → (name : List ℕ) × (file ≡ Some name)
+some_name (Some name) is = (name, refl)
+some_name None is = cc
+
+reads_netlist : (j : Job) (port : InPort) (name : List ℕ) → input_name (asked_by j) port ≡ Some name
+    → IsSome (input_name (asked_by j) Netlist)
+reads_netlist (job.Demo size seed) port name is =
+    let none : None ≡ Some name = sym (demo_reads_none size seed port) ∙ is in cc
+reads_netlist j port name is = refl
 
 -- a job that reads any file reads a netlist
 pub netlist_named : (j : Job) (port : InPort) (name : List ℕ) → input_name (asked_by j) port ≡ Some name
     → (n : List ℕ) × (input_name (asked_by j) Netlist ≡ Some n)
-netlist_named (job.Sim netlist tests out start) port name is = (netlist, refl)
-netlist_named (job.Gen files options) port name is = (files.netlist, refl)
-netlist_named (job.Check files start) port name is = (files.netlist, refl)
-netlist_named (job.Norm netlist out) port name is = (netlist, refl)
-netlist_named (job.Compact netlist tests out) port name is = (netlist, refl)
-netlist_named (job.Diagnose netlist tests responses out) port name is = (netlist, refl)
-netlist_named (job.Uninit netlist out budget) port name is = (netlist, refl)
-netlist_named (job.Sync netlist tests out budget) port name is = (netlist, refl)
-netlist_named (job.Respond netlist tests out fault start) port name is = (netlist, refl)
-netlist_named (job.Report files budget start) port name is = (files.netlist, refl)
-netlist_named (job.Demo size seed) port name is =
-    let none : None ≡ Some name = sym (demo_reads_none size seed port) ∙ is in cc
+netlist_named j port name is = some_name (input_name (asked_by j) Netlist) (reads_netlist j port name is)
 
 -- a job that reads responses reads tests
 tests_named : (j : Job) (name : List ℕ) → may_state_start (asked_by j) ≡ false
@@ -132,6 +132,13 @@ port_is a (BadResponses line) port at = (at_other (may_state_start a) Extra port
 port_is a (Denied found) port at = (at_port (judges a.command) (trouble_port found) port at).1
 port_is a e port at = at
 
+-- of the texts that have troubles of their own only the tests are judged with the others
+trouble_at : (found : Trouble) (port : InPort) → IsText port → Some (trouble_port found) ≡ Some port → port ≡ Tests
+trouble_at (trouble.Tests line) port is at = cc
+trouble_at (trouble.Report line) port is at =
+    let same : port ≡ Report = cc in absurd (subst IsText same is)
+trouble_at found port is at = let same : port ≡ Proofs = cc in absurd (subst IsText same is)
+
 -- what takes few vectors judges no proofs
 few_judge_none : (kind : Kind) → takes_few kind ≡ true → judges kind ≡ true → ⊥
 few_judge_none compact few judged = cc
@@ -175,7 +182,8 @@ never : (a : Asked) (text : List ℕ) (b basis : JobBasis) (port : InPort) (e : 
     → (may_state_start a ≡ false → port ≡ Extra → b.content.list ≡ basis.content.list) → IsRefusedFor a b e text
     → ¬ SaysBasis a basis port text
 never a text b basis Extra (BadStart line) is at same good lists wrong says =
-    no_start text b.circuit basis same (may_state_start a) (at_port (may_state_start a) Extra Extra at).0 line wrong says
+    no_start text b.circuit basis same (may_state_start a)
+    (at_port (may_state_start a) Extra Extra at).0 line wrong says
 never a text b basis Extra (BadResponses line) is at same good lists wrong says =
     let may = (at_other (may_state_start a) Extra Extra at).0 in
     no_rows text b.circuit basis same (may_state_start a) may b.content.list (lists may refl) line wrong says
@@ -192,6 +200,10 @@ never a text b basis Faults (BadFaults line) is at same good lists wrong says =
 never a text b basis Netlist e is at same good lists wrong says = absurd is
 never a text b basis Report e is at same good lists wrong says = absurd is
 never a text b basis Proofs e is at same good lists wrong says = absurd is
+never a text b basis Extra (Denied found) is at same good lists wrong says =
+    let other = trouble_at found Extra tt (port_is a (Denied found) Extra at) in cc
+never a text b basis Faults (Denied found) is at same good lists wrong says =
+    let other = trouble_at found Faults tt (port_is a (Denied found) Faults at) in cc
 never a text b basis Extra e is at same good lists wrong says = let other = port_is a e Extra at in cc
 never a text b basis Tests e is at same good lists wrong says = let other = port_is a e Tests at in cc
 never a text b basis Faults e is at same good lists wrong says = let other = port_is a e Faults at in cc
@@ -199,7 +211,8 @@ never a text b basis Faults e is at same good lists wrong says = let other = por
 -- ---- refused texts among those that say a basis
 
 -- tests are read before responses
-tests_before : (starts : Bool) → starts ≡ false → (0 < place_of Tests starts) × (place_of Tests starts < place_of Extra starts)
+tests_before : (starts : Bool) → starts ≡ false → (0 < place_of Tests starts) ×
+    (place_of Tests starts < place_of Extra starts)
 tests_before true may = cc
 tests_before false may = (omega arith, omega arith)
 
@@ -212,13 +225,15 @@ module _ (j : Job) (texts : InPort → List ℕ) {port : InPort} {status : ℕ} 
       → ¬ SaysBasis (asked_by j) basis port (texts port)
   refused_says basis good others says =
       let same = one_circuit (texts Netlist) r.basis.circuit basis.circuit r.circuit.stands good.stands in
-      never (asked_by j) (texts port) r.basis basis port r.error is r.at same good.stands.is_circuit lists r.refused says
+      never (asked_by j) (texts port) r.basis basis port r.error is r.at same good.stands.is_circuit lists r.refused
+      says
     where
       lists : may_state_start (asked_by j) ≡ false → port ≡ Extra → r.basis.content.list ≡ basis.content.list
       lists may at =
           let (n, named) = tests_named j name may (ap (input_name (asked_by j)) (sym at) ∙ reads) in
           let place = tests_before (may_state_start (asked_by j)) may in
-          let before = omega (arith, place.1, ap (order_of (asked_by j)) at) in
+          let before : order_of (asked_by j) Tests < order_of (asked_by j) port =
+          omega (arith, place.1, ap (order_of (asked_by j)) at) in
           let same = one_circuit (texts Netlist) r.basis.circuit basis.circuit r.circuit.stands good.stands in
           let few = takes_few (asked_by j).command in
           one_list basis.circuit (texts Tests) r.basis.content.list basis.content.list
@@ -257,7 +272,7 @@ module _ (texts : InPort → List ℕ) (basis : JobBasis) where
       one_classes basis.circuit representatives basis.representatives
       (subst (λ (c : net.Netlist). AreClasses c representatives) same classes) named.1 in
       none (subst (λ (c : net.Netlist). AreSo c representatives start) (sym same)
-      (subst (λ (l : List ℕ). AreSo basis.circuit l start) (sym list)
+          (subst (λ (l : List ℕ). AreSo basis.circuit l start) (sym list)
       (subst (λ (s : List Tern). AreSo basis.circuit basis.representatives s) (sym from) valid)))
 
   -- those of the basis are denied, if they aren't valid
@@ -329,7 +344,8 @@ module _ (texts : InPort → List ℕ) (basis : JobBasis) where
           justifies_none : ¬ JustifyReport basis.circuit basis.representatives basis.content.start budget (texts Tests)
               (texts Proofs)
           justifies_none (content, from, budget_is, vectors, good) =
-              justified_has_no_trouble basis.circuit basis.representatives (texts Tests) (texts Proofs) content e vectors
+              justified_has_no_trouble basis.circuit basis.representatives (texts Tests)
+              (texts Proofs) content e vectors
               good.proved good.justified
               (subst (λ (b : ℕ). IsFirstUnjustified basis.circuit basis.representatives content.start b (texts Tests)
               (texts Proofs) e) (sym budget_is)
@@ -411,52 +427,64 @@ refused_with (job.Check files start) texts basis (Denied (trouble.Report line)) 
   Proofs,
   files.proofs,
   refl,
-  refl,
-  check_denied texts basis files start (trouble.Report line) h.stated
-      (λ p n less named. h.before p n (omega (arith, less)) named)
-      (basis.content.list, h.before Tests files.tests (omega arith) refl, h.refused),
+  (
+    refl,
+    check_denied texts basis files start (trouble.Report line) h.stated
+        (λ p n less named. h.before p n (omega (arith, less)) named)
+        (basis.content.list, h.before Tests files.tests (omega arith) refl, h.refused),
+  ),
 )
 refused_with (job.Check files start) texts basis (Denied (trouble.Proofs line)) Proofs name h = (
   Proofs,
   files.proofs,
   refl,
-  refl,
-  check_denied texts basis files start (trouble.Proofs line) h.stated
-      (λ p n less named. h.before p n (omega (arith, less)) named)
-      (before_proofs basis.content, read_to texts basis files start h.before, h.refused),
+  (
+    refl,
+    check_denied texts basis files start (trouble.Proofs line) h.stated
+        (λ p n less named. h.before p n (omega (arith, less)) named)
+        (before_proofs basis.content, read_to texts basis files start h.before, h.refused),
+  ),
 )
 refused_with (job.Check files start) texts basis (Denied (trouble.Fault number)) Proofs name h = (
   Proofs,
   files.proofs,
   refl,
-  refl,
-  check_denied texts basis files start (trouble.Fault number) h.stated
-      (λ p n less named. h.before p n (omega (arith, less)) named)
-      (before_proofs basis.content, read_to texts basis files start h.before, h.refused),
+  (
+    refl,
+    check_denied texts basis files start (trouble.Fault number) h.stated
+        (λ p n less named. h.before p n (omega (arith, less)) named)
+        (before_proofs basis.content, read_to texts basis files start h.before, h.refused),
+  ),
 )
 refused_with (job.Report files budget start) texts basis (Denied (trouble.Proofs line)) Proofs name h = (
   Proofs,
   files.proofs,
   refl,
-  refl,
-  report_denied texts basis files start budget (trouble.Proofs line) h.stated
-      (λ p n less named. h.before p n (omega (arith, less)) named)
-      (basis.content.list, h.before Tests files.tests (omega arith) refl, h.refused),
+  (
+    refl,
+    report_denied texts basis files start budget (trouble.Proofs line) h.stated
+        (λ p n less named. h.before p n (omega (arith, less)) named)
+        (basis.content.list, h.before Tests files.tests (omega arith) refl, h.refused),
+  ),
 )
 refused_with (job.Report files budget start) texts basis (Denied (trouble.Fault number)) Proofs name h = (
   Proofs,
   files.proofs,
   refl,
-  refl,
-  report_denied texts basis files start budget (trouble.Fault number) h.stated
-      (λ p n less named. h.before p n (omega (arith, less)) named)
-      (basis.content.list, h.before Tests files.tests (omega arith) refl, h.refused),
+  (
+    refl,
+    report_denied texts basis files start budget (trouble.Fault number) h.stated
+        (λ p n less named. h.before p n (omega (arith, less)) named)
+        (basis.content.list, h.before Tests files.tests (omega arith) refl, h.refused),
+  ),
 )
 refused_with j texts basis e Extra name h = of_text j texts basis e Extra name tt h
 refused_with j texts basis e Tests name h = of_text j texts basis e Tests name tt h
 refused_with j texts basis e Faults name h = of_text j texts basis e Faults name tt h
 refused_with (job.Report files budget start) texts basis (Denied (trouble.Report line)) Report name h =
     let none : None ≡ Some name = h.reads in cc
+refused_with j texts basis (Denied (trouble.Tests line)) Netlist name h =
+    let other = port_is (asked_by j) (Denied (trouble.Tests line)) Netlist h.at in cc
 refused_with j texts basis e Netlist name h = let other = port_is (asked_by j) e Netlist h.at in cc
 refused_with j texts basis e Report name h =
     let at = h.at in let other = port_is (asked_by j) e Report h.at in cc
@@ -465,19 +493,21 @@ refused_with j texts basis e Proofs name h =
 
 -- ---- one status
 
+-- few tests aren't both malformed early and too many
+early_or_many : (few : Bool) (c d : net.Netlist) (text : List ℕ) (line : ℕ) → few ≡ true → c ≡ d
+    → IsWrongTest few c text line → ¬ HasTooManyVectors d text
+early_or_many true c d text line is same wrong many = malformed_or_many d text line
+    (subst (λ (n : net.Netlist). IsMalformedEarly n text line) same wrong) many
+early_or_many false c d text line is same wrong many = cc
+
 -- two errors that refuse the text of one port have one status
 same_status : (a : Asked) (text : List ℕ) (port : InPort) (b d : JobBasis) (e f : RunError)
     → refused_port a e ≡ Some port → refused_port a f ≡ Some port → b.circuit ≡ d.circuit → IsText port
     → IsRefusedFor a b e text → IsRefusedFor a d f text → exit_status e ≡ exit_status f
-same_status a text port b d (BadTests line) TooManyVectors x y same is p q = absurd (never_many
-    (takes_few a.command) (at_port (takes_few a.command) Tests port y).0 p)
-  where
-    never_many : (few : Bool) → few ≡ true → ¬ IsWrongTest few b.circuit text line
-    never_many true is wrong = malformed_or_many d.circuit text line
-        (subst (λ (c : net.Netlist). IsMalformedEarly c text line) same wrong) q
-    never_many false is wrong = cc
-same_status a text port b d TooManyVectors (BadTests line) x y same is p q =
-    sym (same_status a text port d b (BadTests line) TooManyVectors y x (sym same) is q p)
+same_status a text port b d (BadTests line) TooManyVectors x y same is p q = absurd (early_or_many
+    (takes_few a.command) b.circuit d.circuit text line (at_port (takes_few a.command) Tests port y).0 same p q)
+same_status a text port b d TooManyVectors (BadTests line) x y same is p q = absurd (early_or_many
+    (takes_few a.command) d.circuit b.circuit text line (at_port (takes_few a.command) Tests port x).0 (sym same) q p)
 same_status a text port b d (Denied t) (Denied u) x y same is p q = refl
 same_status a text port b d (Denied t) TooManyVectors x y same is p q = absurd (few_judge_none a.command
     (at_port (takes_few a.command) Tests port y).0 (at_port (judges a.command) (trouble_port t) port x).0)
@@ -498,8 +528,10 @@ same_status a text port b d (BadResponses number) (BadStart line) x y same is p 
 same_status a text Netlist b d e f x y same is p q = absurd is
 same_status a text Report b d e f x y same is p q = absurd is
 same_status a text Proofs b d e f x y same is p q = absurd is
-same_status a text Extra b d e (Denied (trouble.Tests line)) x y same is p q =
-    let other = port_is a (Denied (trouble.Tests line)) Extra y in cc
+same_status a text port b d (Denied t) f x y same is p q =
+    let first = trouble_at t port is (port_is a (Denied t) port x) in let second = port_is a f port y in cc
+same_status a text port b d e (Denied t) x y same is p q =
+    let first = port_is a e port x in let second = trouble_at t port is (port_is a (Denied t) port y) in cc
 same_status a text port b d e f x y same is p q =
     let first = port_is a e port x in let second = port_is a f port y in cc
 

@@ -198,7 +198,8 @@ module _ {job : Asked} {basis : JobBasis} {place : ℕ} {a m : DeskView} (h : Ha
       unread = λ p after. unread_at p (omega (arith, after, at));
     }
 
-    stops_reading : (order_of job Tests ≤ order_of job port → HasFault job basis.circuit) → (e : RunError) → ReadStops job basis port name m b e
+    stops_reading : (order_of job Tests ≤ order_of job port → HasFault job basis.circuit) → (e : RunError)
+        → ReadStops job basis port name m b e
         → StopsReading job a b e
     unfolding refuses
     stops_reading fault Usage stops = absurd stops
@@ -223,7 +224,8 @@ module _ {job : Asked} {basis : JobBasis} {place : ℕ} {a m : DeskView} (h : Ha
     stops_reading fault e stops = refuses fault e stops
 
     -- if reading the next file in the order ends the run, the reading of the job ends for that cause
-    pub stops_there : (order_of job Tests ≤ order_of job port → HasFault job basis.circuit) → (e : RunError) → ReadStops job basis port name m b e
+    pub stops_there : (order_of job Tests ≤ order_of job port → HasFault job basis.circuit) → (e : RunError)
+        → ReadStops job basis port name m b e
         → EndsReading job a b e
     stops_there fault e stops = record {
       reads = reads_then h.reads (only_reads call);

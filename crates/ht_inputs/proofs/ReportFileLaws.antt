@@ -75,7 +75,8 @@ module _ (v : ReportJudgeView) (basis : JobBasis) where
       none (same_circuit (λ c r. IsReportFront c r (before ++ line ∷ [])) h.circuit h.representatives
       (reading_is_front v.circuit v.representatives (before ++ line ∷ []) h.judges.at h.judges.read))
   judged_is_fine before line h (Denied (Report number)) (is, inr contradicts) =
-      same_circuit (λ c r. ¬ ContradictsTests c r basis.content.start basis.content.list (before ++ line ∷ [])) h.circuit h.representatives
+      same_circuit (λ c r. ¬ ContradictsTests c r basis.content.start basis.content.list
+      (before ++ line ∷ [])) h.circuit h.representatives
       (contradicts_nothing v basis.content.start basis.content.list (before ++ line ∷ [])
       (subst IsCircuit (sym h.circuit) h.well_formed) h.judges) contradicts
   judged_is_fine before line h error wrong = wrong
@@ -87,7 +88,8 @@ module _ (v : ReportJudgeView) (basis : JobBasis) where
   denied_is_wrong before line h (judge.Denied (Report number)) denied = inr (
     denied.0,
     same_circuit (λ c r. (¬ IsReportFront c r (before ++ line ∷ []))
-        ⊎ ContradictsTests c r basis.content.start basis.content.list (before ++ line ∷ [])) h.circuit h.representatives denied.1,
+        ⊎ ContradictsTests c r basis.content.start basis.content.list
+        (before ++ line ∷ [])) h.circuit h.representatives denied.1,
   )
   denied_is_wrong before line h judge.NoMemory denied = inl refl
   denied_is_wrong before line h e denied = absurd denied
@@ -230,7 +232,8 @@ module _ (job : Asked) (judged : judges job.command ≡ true) (name : List ℕ) 
 
 -- a report that the judge took to its end, true of the tests, is read, with its budget and verdicts
 pub report_is_read : (v : ReportJudgeView) (basis : JobBasis) (name : List ℕ) (a : DeskView)
-    → (read : StandsForFile (StandsForReport v basis) (IsWrongInReport basis) (2 ^ 64 - 1) in_port.Report name a) (budget : ℕ)
+    → (read : StandsForFile (StandsForReport v basis) (IsWrongInReport basis) (2 ^ 64 - 1) in_port.Report name a)
+    (budget : ℕ)
     (saids : List Said) → basis.content.budget ≡ budget → basis.content.saids ≡ saids
     → IsTrueReport v.circuit v.representatives basis.content.start basis.content.list read.lines budget saids
     → ReportIsRead basis name a

@@ -205,30 +205,33 @@ module _ (basis : JobBasis) (text : List ℕ) (before : List (List ℕ)) (fine :
 
 module _ (job : Asked) (states_none : may_state_start job ≡ false) (name : List ℕ) (basis : JobBasis) (a b : DeskView)
   where
-  abbrev Stops : RunError → Type 0
-  Stops = ReadStops job basis in_port.Extra name a b
+    abbrev Stops : RunError → Type 0
+    Stops = ReadStops job basis in_port.Extra name a b
 
-  refuses_rows : (line : ℕ) → refused_port job (BadResponses line) ≡ Some in_port.Extra
-  refuses_rows line = ap (λ (is_start : Bool). if is_start then None else Some in_port.Extra) states_none
+    refuses_rows : (line : ℕ) → refused_port job (BadResponses line) ≡ Some in_port.Extra
+    refuses_rows line = ap (λ (is_start : Bool). if is_start then None else Some in_port.Extra) states_none
 
-  -- what stops the lines of responses is why reading the file ends the run
-  pub responses_stop : {most : ℕ} {e : RunError} → length basis.circuit.outputs ≤ max_nets
-      → LinesStop (IsNoRowLine basis) BadResponses max_nets most in_port.Extra name a b e → Stops e
-  responses_stop few stops = lines_stop Stops (λ fault. fault) tt
-      (λ e s. subst Stops (sym s.wrong.0)
-      (refuses_rows (length s.before + 1), read_so _ (λ text front. bad_row basis text s.before s.fine s.line e front s.wrong) s.read))
-      (λ line s. subst (λ (n : ℕ). Stops (BadResponses n)) (sym s.line_is)
-      (refuses_rows (length s.before + 1), read_so _ (λ text long. long_row basis text s.before s.fine few long) s.read)) stops
+    -- what stops the lines of responses is why reading the file ends the run
+    pub responses_stop : {most : ℕ} {e : RunError} → length basis.circuit.outputs ≤ max_nets
+        → LinesStop (IsNoRowLine basis) BadResponses max_nets most in_port.Extra name a b e → Stops e
+    responses_stop few stops = lines_stop Stops (λ fault. fault) tt
+        (λ e s. subst Stops (sym s.wrong.0)
+        (refuses_rows (length s.before + 1), read_so _
+        (λ text front. bad_row basis text s.before s.fine s.line e front s.wrong) s.read))
+        (λ line s. subst (λ (n : ℕ). Stops (BadResponses n)) (sym s.line_is)
+        (refuses_rows (length s.before + 1), read_so _
+        (λ text long. long_row basis text s.before s.fine few long) s.read)) stops
 
-  -- the responses end before there is one for each vector
-  pub responses_end : {Stands : List (List ℕ) → Type 0} {v : ObservationView}
-      (read : StandsForFile Stands (IsNoRowLine basis) (2 ^ 64 - 1) in_port.Extra name a)
-      → StandsForResponses v basis read.lines → length v.rows < length basis.content.list
-      → Stops (BadResponses (length v.rows + 1))
-  responses_end {v = v} read stands fewer =
-      let count : length read.lines ≡ length v.rows = ap length stands.lines_are ∙ length-map v.rows row_text in
-      subst (λ (n : ℕ). Stops (BadResponses (n + 1))) count
-      (refuses_rows (length read.lines + 1), read_so _ (λ text has. missing_row basis text read.lines read.fine has (omega (arith, count, fewer))) (whole_file read))
+    -- the responses end before there is one for each vector
+    pub responses_end : {Stands : List (List ℕ) → Type 0} {v : ObservationView}
+        (read : StandsForFile Stands (IsNoRowLine basis) (2 ^ 64 - 1) in_port.Extra name a)
+        → StandsForResponses v basis read.lines → length v.rows < length basis.content.list
+        → Stops (BadResponses (length v.rows + 1))
+    responses_end {v = v} read stands fewer =
+        let count : length read.lines ≡ length v.rows = ap length stands.lines_are ∙ length-map v.rows row_text in
+        subst (λ (n : ℕ). Stops (BadResponses (n + 1))) count
+            (refuses_rows (length read.lines + 1), read_so _
+        (λ text has. missing_row basis text read.lines read.fine has (omega (arith, count, fewer))) (whole_file read))
 
 -- a basis for so many values in each row, and so many vectors
 abbrev pub basis_for : ℕ → ℕ → JobBasis

@@ -114,7 +114,8 @@ module _ (basis : JobBasis) (text : List ℕ) (before : List (List ℕ)) (fine :
       → IsNoStartLine basis before line error → IsBadAt (length before + 1)
   bad_start line error front wrong =
       bad_at (shorter before line text front) (front_is before line text front).0 (λ first start is.
-      let some = wrong.1 start (subst (λ (l : List ℕ). IsFirstLine l start) (first_is before line text front first) is) in
+      let some = wrong.1 start (subst (λ (l : List ℕ). IsFirstLine l start)
+      (first_is before line text front first) is) in
       omega (arith, some, first))
 
   -- after fine lines, one that is too long for a start is the first malformed one
@@ -209,7 +210,9 @@ module _ {job : Asked} {basis : JobBasis} {first old new : DeskView} (may : may_
     start_step width of_width (Err e) read = tt
 
     -- an error in reading the start after the netlist ends the reading of the job
-    pub step_stops : (result : Result (Vec Tern Global) RunError) → IfErr result (ReadStops job basis Extra name old new)
+    pub step_stops : (result : Result (Vec Tern Global) RunError) → IfErr result
+        (ReadStops job basis Extra name old new)
         → IfErr result (EndsReading job first new)
     step_stops (Ok start) stops = tt
-    step_stops (Err e) stops = stops_there before (at_one job may) reads call (λ late. absurd (omega (arith, late, ap (place_of Tests) may, at_one job may))) e stops
+    step_stops (Err e) stops = stops_there before (at_one job may) reads call
+        (λ late. absurd (omega (arith, late, ap (place_of Tests) may, at_one job may))) e stops

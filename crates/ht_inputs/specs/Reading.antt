@@ -80,7 +80,8 @@ pub record FailsToRead (job : Asked) (old new : DeskView) : Type 0 where
   pub before : AcceptsBefore job basis port old
   pub fault : port ≡ Tests → HasFault job basis.circuit
   pub lacks : IsTrue old.steady → ¬ Holds old name
-  pub held : IsTrue old.steady → (p : InPort) (n : List ℕ) → order_of job p < order_of job port → input_name job p ≡ Some n
+  pub held : IsTrue old.steady → (p : InPort) (n : List ℕ) → order_of job p < order_of job port
+      → input_name job p ≡ Some n
       → Holds old n
 
 -- Why reading the files of a job ends its run by an error. Memory may run out at any time.

@@ -67,7 +67,8 @@ fn number_or_default(
 
 /// The budget of each search.
 pub fn budget(matches: &ArgMatches<'_>) -> Result<u64, WordsFault>
-    ensures { Reads (budget_of (first_of (codes "budget") (rows_of (found_of matches.now)))) result }
+    ensures { Reads (budget_of (first_of (codes "budget") (rows_of (found_of matches.now))))
+        result }
 {
     number_or_default(matches, "budget", DEFAULT_BUDGET, MIN_BUDGET, MAX_BUDGET)
 }

@@ -86,7 +86,8 @@ macro_rules! with_values {
 
 /// The job of `sim`.
 fn sim_job(alloc: Global, matches: &ArgMatches<'_>) -> Result<Job, WordsFault>
-    ensures { IsAnswer (asked_in_rows (command_of kind.sim) (rows_of (found_of matches.now))) result }
+    ensures { IsAnswer (asked_in_rows (command_of kind.sim) (rows_of (found_of matches.now)))
+        result }
 {
     let start = optional_value(alloc, matches, "start")?;
     with_values!(alloc, matches => Job::Sim { netlist, tests, report; start })
@@ -128,7 +129,8 @@ fn gen_options(alloc: Global, matches: &ArgMatches<'_>) -> Result<GenOptions, Wo
 
 /// The job of `gen`.
 fn gen_job(alloc: Global, matches: &ArgMatches<'_>) -> Result<Job, WordsFault>
-    ensures { IsAnswer (asked_in_rows (command_of kind.gen) (rows_of (found_of matches.now))) result }
+    ensures { IsAnswer (asked_in_rows (command_of kind.gen) (rows_of (found_of matches.now)))
+        result }
 {
     let options = gen_options(alloc, matches)?;
     let files = run_files(alloc, matches)?;
@@ -137,7 +139,8 @@ fn gen_job(alloc: Global, matches: &ArgMatches<'_>) -> Result<Job, WordsFault>
 
 /// The job of `check`.
 fn check_job(alloc: Global, matches: &ArgMatches<'_>) -> Result<Job, WordsFault>
-    ensures { IsAnswer (asked_in_rows (command_of kind.check) (rows_of (found_of matches.now))) result }
+    ensures { IsAnswer (asked_in_rows (command_of kind.check) (rows_of (found_of matches.now)))
+        result }
 {
     let start = optional_value(alloc, matches, "start")?;
     let files = run_files(alloc, matches)?;
@@ -146,7 +149,8 @@ fn check_job(alloc: Global, matches: &ArgMatches<'_>) -> Result<Job, WordsFault>
 
 /// The job of `norm`.
 fn norm_job(alloc: Global, matches: &ArgMatches<'_>) -> Result<Job, WordsFault>
-    ensures { IsAnswer (asked_in_rows (command_of kind.norm) (rows_of (found_of matches.now))) result }
+    ensures { IsAnswer (asked_in_rows (command_of kind.norm) (rows_of (found_of matches.now)))
+        result }
 {
     with_values!(alloc, matches => Job::Norm { netlist, out })
 }
@@ -163,21 +167,24 @@ fn demo_job(matches: &ArgMatches<'_>) -> Result<Job, WordsFault>
 
 /// The job of `compact`.
 fn compact_job(alloc: Global, matches: &ArgMatches<'_>) -> Result<Job, WordsFault>
-    ensures { IsAnswer (asked_in_rows (command_of kind.compact) (rows_of (found_of matches.now))) result }
+    ensures { IsAnswer (asked_in_rows (command_of kind.compact) (rows_of (found_of matches.now)))
+        result }
 {
     with_values!(alloc, matches => Job::Compact { netlist, tests, out })
 }
 
 /// The job of `diagnose`.
 fn diagnose_job(alloc: Global, matches: &ArgMatches<'_>) -> Result<Job, WordsFault>
-    ensures { IsAnswer (asked_in_rows (command_of kind.diagnose) (rows_of (found_of matches.now))) result }
+    ensures { IsAnswer (asked_in_rows (command_of kind.diagnose) (rows_of (found_of matches.now)))
+        result }
 {
     with_values!(alloc, matches => Job::Diagnose { netlist, tests, responses, out })
 }
 
 /// The job of `uninit`.
 fn uninit_job(alloc: Global, matches: &ArgMatches<'_>) -> Result<Job, WordsFault>
-    ensures { IsAnswer (asked_in_rows (command_of kind.uninit) (rows_of (found_of matches.now))) result }
+    ensures { IsAnswer (asked_in_rows (command_of kind.uninit) (rows_of (found_of matches.now)))
+        result }
 {
     let budget = budget(matches)?;
     with_values!(alloc, matches => Job::Uninit { netlist, out; budget })
@@ -185,7 +192,8 @@ fn uninit_job(alloc: Global, matches: &ArgMatches<'_>) -> Result<Job, WordsFault
 
 /// The job of `sync`.
 fn sync_job(alloc: Global, matches: &ArgMatches<'_>) -> Result<Job, WordsFault>
-    ensures { IsAnswer (asked_in_rows (command_of kind.sync) (rows_of (found_of matches.now))) result }
+    ensures { IsAnswer (asked_in_rows (command_of kind.sync) (rows_of (found_of matches.now)))
+        result }
 {
     let budget = budget(matches)?;
     with_values!(alloc, matches => Job::Sync { netlist, tests, out; budget })
@@ -193,7 +201,8 @@ fn sync_job(alloc: Global, matches: &ArgMatches<'_>) -> Result<Job, WordsFault>
 
 /// The job of `respond`.
 fn respond_job(alloc: Global, matches: &ArgMatches<'_>) -> Result<Job, WordsFault>
-    ensures { IsAnswer (asked_in_rows (command_of kind.respond) (rows_of (found_of matches.now))) result }
+    ensures { IsAnswer (asked_in_rows (command_of kind.respond) (rows_of (found_of matches.now)))
+        result }
 {
     let fault = fault_number(matches)?;
     let start = optional_value(alloc, matches, "start")?;
@@ -202,7 +211,8 @@ fn respond_job(alloc: Global, matches: &ArgMatches<'_>) -> Result<Job, WordsFaul
 
 /// The job of `report`.
 fn report_job(alloc: Global, matches: &ArgMatches<'_>) -> Result<Job, WordsFault>
-    ensures { IsAnswer (asked_in_rows (command_of kind.report) (rows_of (found_of matches.now))) result }
+    ensures { IsAnswer (asked_in_rows (command_of kind.report) (rows_of (found_of matches.now)))
+        result }
 {
     let budget = budget(matches)?;
     let start = optional_value(alloc, matches, "start")?;

@@ -40,7 +40,8 @@ returns-in_err-claims g c = λ start first is.
     let f = c.args.files.now in
     let names = short_names is.netlist.0 c.args.graded.now.circuit is.netlist.1.stands in
     let ends = stops_there (vectors_read is 0 [] []) refl (ap Some (sym c.as_str-report.ensures))
-    c.in_err-claims.ensures.frame (λ is. tt) c.in_err-claims.field-0.0 (c.in_err-claims.ensures.stops (job f start) (said c.args.graded.now is.list 0 [] []) refl is.first names) in
+    c.in_err-claims.ensures.frame (λ is. tt) c.in_err-claims.field-0.0
+    (c.in_err-claims.ensures.stops (job f start) (said c.args.graded.now is.list 0 [] []) refl is.first names) in
     record { made = search rules; stopped = search (rules, ends) }
 
 pub read_proofs-requires-clause-each : goal.read_proofs-requires-clause-each

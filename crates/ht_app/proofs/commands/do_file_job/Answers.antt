@@ -15,7 +15,8 @@ ends_as {result = result} {a = a} {b = b} is ends =
 pub returns-in-Sim : goal.returns-in-Sim
 returns-in-Sim g c =
     let kind = c.in-Sim in
-    ends_as kind.is (c.finish.ensures (asked_by (job_of.Sim kind.netlist kind.tests kind.out kind.start)) (g.D.Desk.view c.args.desk.now)
+    ends_as kind.is (c.finish.ensures (asked_by (job_of.Sim kind.netlist kind.tests kind.out kind.start))
+    (g.D.Desk.view c.args.desk.now)
     refl refl (c.simulate-made.ensures kind.out))
 
 pub returns-in-Compact : goal.returns-in-Compact
@@ -27,7 +28,8 @@ returns-in-Compact g c =
 pub returns-in-Diagnose : goal.returns-in-Diagnose
 returns-in-Diagnose g c =
     let kind = c.in-Diagnose in
-    ends_as kind.is (c.finish-in-Diagnose.ensures (asked_by (job_of.Diagnose kind.netlist kind.tests kind.responses kind.out))
+    ends_as kind.is (c.finish-in-Diagnose.ensures (asked_by
+    (job_of.Diagnose kind.netlist kind.tests kind.responses kind.out))
     (g.D.Desk.view c.args.desk.now) refl refl (c.diagnose-made.ensures kind.out))
 
 pub returns-in-Uninit : goal.returns-in-Uninit

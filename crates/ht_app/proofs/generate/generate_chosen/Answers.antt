@@ -36,7 +36,8 @@ to_faults : (f : RunFiles) (options : Options) {c : net.Netlist} {start : List T
     {before now : DeskView} → HasNetlist c → HaveRead f options c start list before now → (chosen : List ℕ)
     → HasReadTo (job f options) (basis c start list chosen) 5 before now
 to_faults f options {c = c} {start = start} {list = list} netlist read chosen =
-    skipped (skipped (read (basis c start list chosen) refl refl refl) Report refl refl netlist) Proofs refl refl netlist
+    skipped (skipped (read (basis c start list chosen) refl refl refl) Report refl refl netlist) Proofs refl refl
+    netlist
 
 -- how many faults there are
 counted : (g : given.Over) (c : After-len g) → length (faults_of c.args.circuit.now) ≡ c.len.result
@@ -66,7 +67,7 @@ returns-in_err-chosen g c = λ before read.
     (counted g (goal.at.returns-in_err-chosen g c).After-len) tt (to_faults f options c.requires.netlist read [])) in
     let is : c.from_residual.result ≡ Err c.in_err-chosen.field-0.0 = search rules in
     subst (λ (r : Result (Unit {0}) RunError). EndsJob (job f options) r before (g.D.Desk.view c.read_chosen.new.desk))
-    (sym is) ends
+        (sym is) ends
 
 -- ---- the files are written
 
@@ -94,7 +95,7 @@ are_settings : (g : given.Over) (c : In_ok-chosen g)
 are_settings g c =
     let o = c.args.options.now in
     ap (λ (v : Rows). settings o c.args.start.items v c.in_ok-chosen.chosen)
-    (given_first c.args.first o.first c.args.circuit.now.inputs c.requires.width c.requires.none)
+        (given_first c.args.first o.first c.args.circuit.now.inputs c.requires.width c.requires.none)
     ∙ ap (settings o c.args.start.items _)
     (given_numbers c.in_ok-chosen.chosen o.faults c.in_ok-chosen.ensures.named)
 

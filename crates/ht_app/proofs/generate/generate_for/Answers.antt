@@ -48,7 +48,8 @@ first_reads g c {first = first} read b circuit starts lists =
 pub returns-in_err-start : goal.returns-in_err-start
 returns-in_err-start g c = λ first read.
     let told = basis_of c.args.circuit.now [] [] in
-    let ends = ends_unread (c.in_err-start.ensures.stopped (job c.args.files.now c.args.options.now) told first refl refl
+    let ends = ends_unread (c.in_err-start.ensures.stopped
+    (job c.args.files.now c.args.options.now) told first refl refl
     refl (read told refl (λ none. refl))) in
     search (rules, ends)
 
@@ -67,7 +68,7 @@ returns-in_err-listed g c = λ first read.
     refl)) in
     let is : c.from_residual-in_err-listed.result ≡ Err NoMemory = search rules in
     subst (λ (r : Result (Unit {0}) RunError). EndsJob (job c.args.files.now c.args.options.now) r first
-    (g.D.Desk.view c.read_first.new.desk)) (sym is) ends
+        (g.D.Desk.view c.read_first.new.desk)) (sym is) ends
 
 -- ---- all were read
 

@@ -33,7 +33,8 @@ judges files budget start = record {
   vectors = λ basis text is. is;
 }
 
-no_more : (files : RunFiles) (budget : ℕ) (start : Option (List ℕ)) (p : InPort) → 5 ≤ order_of (job files budget start) p
+no_more : (files : RunFiles) (budget : ℕ) (start : Option (List ℕ)) (p : InPort) → 5 ≤ order_of
+    (job files budget start) p
     → input_name (job files budget start) p ≡ None
 no_more files budget start Netlist late = absurd (omega (arith, late))
 no_more files budget start Faults late = refl

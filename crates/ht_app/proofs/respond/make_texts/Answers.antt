@@ -38,7 +38,8 @@ start_reads : (g : given.Over) (c : In_ok-start g) (out : List ℕ) (list : List
 start_reads g c out list =
     let before = reads g (goal.at.In_ok-start g c).In_ok-circuit out c.in_ok-start.start.items list
     c.in_ok-start.ensures.unstated in
-    c.in_ok-start.ensures.read (asked_by (job_of.Respond c.args.netlist.now c.args.tests.now out c.args.number c.args.start.now))
+    c.in_ok-start.ensures.read (asked_by (job_of.Respond c.args.netlist.now c.args.tests.now out c.args.number
+    c.args.start.now))
     (basis_from c.in_ok-circuit.circuit c.in_ok-start.start.items list []) (g.D.Desk.view c.args.desk.now) refl refl
     refl before refl
 
@@ -49,7 +50,8 @@ all_reads : (g : given.Over) (c : In_ok-list g) (out : List ℕ)
 all_reads g c out =
     let before = start_reads g (goal.at.In_ok-list g c).In_ok-start out c.in_ok-list.list.list in
     one_more before refl refl c.in_ok-list.ensures.frame c.in_ok-circuit.ensures.netlist
-    (read_so (SaysBasis (asked_by (job_of.Respond c.args.netlist.now c.args.tests.now out c.args.number c.args.start.now))
+    (read_so (SaysBasis (asked_by (job_of.Respond c.args.netlist.now c.args.tests.now out c.args.number
+    c.args.start.now))
     (basis_from c.in_ok-circuit.circuit c.in_ok-start.start.items c.in_ok-list.list.list []) Tests)
     (λ text are. are.all (omega (arith, c.in_ok-list.ensures.few))) c.in_ok-list.ensures.read)
 
@@ -78,7 +80,8 @@ returns-in_err-fault g c = λ out.
 pub returns-in_err-list : goal.returns-in_err-list
 returns-in_err-list g c = λ out.
     let before = start_reads g (goal.at.returns-in_err-list g c).In_ok-start out [] in
-    let listed = machine_listed c.in_ok-circuit.circuit c.args.number c.in_ok-fault.fault c.in_ok-fault.ensures.machine in
+    let listed = machine_listed c.in_ok-circuit.circuit c.args.number c.in_ok-fault.fault c.in_ok-fault.ensures.machine
+    in
     let ends = stops_there before refl refl c.in_err-list.ensures.frame (λ is. listed) c.in_err-list.field-0.0
     (tests_stop (asked_by (job_of.Respond c.args.netlist.now c.args.tests.now out c.args.number c.args.start.now))
     (basis_from c.in_ok-circuit.circuit c.in_ok-start.start.items [] []) _ _ _ _
@@ -88,12 +91,16 @@ returns-in_err-list g c = λ out.
 pub returns : goal.returns
 returns g c = λ out. prepares (all_reads g (goal.at.returns g c).In_ok-list out) _ _ _
     (no_more c.args.netlist.now c.args.tests.now out c.args.number c.args.start.now) c.in_ok-circuit.ensures.netlist
-    c.or_no_memory.ensures (IfOk-weaker c.response_texts-made.result _ _ (λ texts are. (out, refl, record {
-      fault = c.in_ok-fault.fault;
-      body = _;
-      said = _;
-      last = _;
-      machine = c.in_ok-fault.ensures.machine;
-      so = are;
-      acts_are = refl;
-    })) (rw c.deref.ensures.value at c.response_texts-made.ensures))
+    c.or_no_memory.ensures (IfOk-weaker c.response_texts-made.result _ _ (λ texts are. (
+      out,
+      refl,
+      record {
+        fault = c.in_ok-fault.fault;
+        body = _;
+        said = _;
+        last = _;
+        machine = c.in_ok-fault.ensures.machine;
+        so = are;
+        acts_are = refl;
+      },
+    )) (rw c.deref.ensures.value at c.response_texts-made.ensures))

@@ -12,19 +12,22 @@ use Rattle.ht_words.specs.Jobs.{asked_by}
 use Rattle.ht_words.specs.declared.job.Job.TheVariants as job_of
 
 reads : (g : given.Over) (c : In_ok-circuit g) (tests out : List ℕ)
-    → HasReadTo (asked_by (job_of.Sync c.args.netlist.now tests out c.args.budget)) (basis_of c.in_ok-circuit.circuit [] []) 1
+    → HasReadTo (asked_by (job_of.Sync c.args.netlist.now tests out c.args.budget))
+    (basis_of c.in_ok-circuit.circuit [] []) 1
     (g.D.Desk.view c.args.desk.now) (g.D.Desk.view c.read_netlist.new.desk)
 reads g c tests out = c.in_ok-circuit.ensures.read (asked_by (job_of.Sync c.args.netlist.now tests out c.args.budget))
     (basis_of c.in_ok-circuit.circuit [] []) refl (λ none. refl) refl (λ text good. good)
 
 no_more : (netlist tests out : List ℕ) (budget : ℕ) (p : InPort)
-    → 1 ≤ order_of (asked_by (job_of.Sync netlist tests out budget)) p → input_name (asked_by (job_of.Sync netlist tests out budget)) p ≡ None
+    → 1 ≤ order_of (asked_by (job_of.Sync netlist tests out budget)) p → input_name
+    (asked_by (job_of.Sync netlist tests out budget)) p ≡ None
 no_more netlist tests out budget Netlist late = absurd (omega (arith, late))
 no_more netlist tests out budget p late = refl
 
 pub returns-in_err-circuit : goal.returns-in_err-circuit
 returns-in_err-circuit g c = λ tests out.
-    let ends = c.in_err-circuit.ensures.stops (asked_by (job_of.Sync c.args.netlist.now tests out c.args.budget)) refl in
+    let ends = c.in_err-circuit.ensures.stops (asked_by
+    (job_of.Sync c.args.netlist.now tests out c.args.budget)) refl in
     record { made = search rules; stopped = search (rules, ends) }
 
 pub returns : goal.returns

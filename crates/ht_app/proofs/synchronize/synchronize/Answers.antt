@@ -6,7 +6,8 @@ use Rattle.ht_words.specs.Jobs.{asked_by}
 use Rattle.ht_words.specs.declared.job.Job.TheVariants as job_of
 
 permitted : (netlist tests out : List ℕ) (budget : ℕ) (list body said last : List ℕ)
-    → PermitsAll (writing (asked_by (job_of.Sync netlist tests out budget))) [] (sync_acts tests out list body said last)
+    → PermitsAll (writing (asked_by (job_of.Sync netlist tests out budget))) []
+    (sync_acts tests out list body said last)
 permitted netlist tests out budget list body said last = (
   (refl, refl),
   (

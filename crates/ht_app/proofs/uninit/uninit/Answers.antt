@@ -11,12 +11,14 @@ use Rattle.ht_words.specs.Jobs.{asked_by}
 use Rattle.ht_words.specs.declared.job.Job.TheVariants as job_of
 
 reads : (g : given.Over) (c : In_ok-circuit g) (out : List ℕ)
-    → HasReadTo (asked_by (job_of.Uninit c.args.netlist.now out c.args.budget)) (basis_of c.in_ok-circuit.circuit [] []) 1
+    → HasReadTo (asked_by (job_of.Uninit c.args.netlist.now out c.args.budget))
+    (basis_of c.in_ok-circuit.circuit [] []) 1
     (g.D.Desk.view c.args.desk.now) (g.D.Desk.view c.read_netlist.new.desk)
 reads g c out = c.in_ok-circuit.ensures.read (asked_by (job_of.Uninit c.args.netlist.now out c.args.budget))
     (basis_of c.in_ok-circuit.circuit [] []) (ap Some (sym c.as_str.ensures)) (λ none. refl) refl (λ text good. good)
 
-no_more : (netlist out : List ℕ) (budget : ℕ) (p : InPort) → 1 ≤ order_of (asked_by (job_of.Uninit netlist out budget)) p
+no_more : (netlist out : List ℕ) (budget : ℕ) (p : InPort) → 1 ≤ order_of
+    (asked_by (job_of.Uninit netlist out budget)) p
     → input_name (asked_by (job_of.Uninit netlist out budget)) p ≡ None
 no_more netlist out budget Netlist late = absurd (omega (arith, late))
 no_more netlist out budget p late = refl

@@ -1,4 +1,4 @@
-use Rattle.std.proofs.Common.{[], List, ℕ, refl, subst, sym, rules, ◌≡◌, ◌≢◌, ◌≤◌, length}
+use Rattle.std.proofs.Common.{arith, [], List, ℕ, refl, subst, sym, rules, ◌≡◌, ◌≢◌, ◌≤◌, length}
 use Rattle.ht_inputs.proofs.Common.{Asked, DeskView, HasNetlist, HasReadTo, IsGoodNetlist, IsNetlistOf, JobBasis}
 use Rattle.ht_inputs.proofs.Common.{ReadStops, SaysBasis, WasRead, max_netlist_bytes}
 use Rattle.ht_bench.specs.Text.{Refuses, IsOfNoCircuit}
@@ -51,8 +51,10 @@ unread g c job basis stated = nothing_read job basis (g.D.Desk.view c.args.desk.
 pub returns-in_err-text-clause-stops : goal.returns-in_err-text-clause-stops
 returns-in_err-text-clause-stops g c = λ job is.
     let basis = basis_of no_circuit [] [] in
-    let stops = stops_there (unread g (goal.at.returns-in_err-text-clause-stops g c).Start job basis (λ none. refl)) refl is
-    c.in_err-text.ensures.frame (not_tests (may_state_start job)) c.in_err-text.field-0.0 (c.in_err-text.ensures.stops job basis) in
+    let stops = stops_there (unread g (goal.at.returns-in_err-text-clause-stops g c).Start job basis
+    (λ none. refl)) refl is
+    c.in_err-text.ensures.frame (not_tests (may_state_start job)) c.in_err-text.field-0.0
+    (c.in_err-text.ensures.stops job basis) in
     search (rules, stops)
 
 pub returns-in_err-circuit-clause-stops : goal.returns-in_err-circuit-clause-stops
@@ -62,8 +64,10 @@ returns-in_err-circuit-clause-stops g c = λ job is.
     let error = c.in_err-circuit.field-0.0 in
     let refused = subst (λ (t : List ℕ). Refuses t error) c.deref.ensures.value c.in_err-circuit.ensures.refusal in
     let none = subst (λ (t : List ℕ). IsOfNoCircuit t error) c.deref.ensures.value c.in_err-circuit.ensures.excludes in
-    let stops = stops_there (unread g (goal.at.returns-in_err-circuit-clause-stops g c).Start job basis (λ none. refl)) refl is
-    read.frame (not_tests (may_state_start job)) (run_error_of error) (netlist_refused c.args.name.now (g.D.Desk.view c.args.desk.now)
+    let stops = stops_there (unread g (goal.at.returns-in_err-circuit-clause-stops g c).Start job basis
+    (λ none. refl)) refl is
+    read.frame (not_tests (may_state_start job)) (run_error_of error)
+    (netlist_refused c.args.name.now (g.D.Desk.view c.args.desk.now)
     (g.D.Desk.view c.read_text.new.desk) c.in_ok-text.text.items job basis error
     (record { read = read.read; short = read.within; refused = refused; none = none })) in
     search (rules, stops)

@@ -1,4 +1,4 @@
-use Rattle.std.proofs.Common.{◌≡◌, ℕ, List, [], ◌∙◌, ap, Option, refl, sym, subst}
+use Rattle.std.proofs.Common.{◌≡◌, ℕ, List, [], ◌∙◌, ap, Option, sym, subst}
 use Rattle.std.specs.Prelude.{IfOk, None, Some, if◌then◌else◌}
 use Rattle.std.proofs.lemmas.Result.{IfErr-weaker}
 use Rattle.ht_inputs.proofs.Common.{AreFirstDetections, Content, ReadStops, Tern, before_proofs}

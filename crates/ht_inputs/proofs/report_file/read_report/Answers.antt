@@ -10,7 +10,8 @@ use Rattle.ht_inputs.proofs.report_file.read_report.Goals.{In_ok-judge}
 -- the judge stands for the beginning of a report that agrees with the tests
 start : (g : given.Over) (c : In_ok-judge g) (content : Content)
     → HasDetections c.args.graded.now content.start content.list
-    → StandsForReport c.in_ok-judge.judge (check_basis c.args.graded.now.circuit c.args.graded.now.listed.classes content) []
+    → StandsForReport c.in_ok-judge.judge (check_basis c.args.graded.now.circuit c.args.graded.now.listed.classes
+    content) []
 start g c content first =
     let made = c.in_ok-judge.ensures in
     record {

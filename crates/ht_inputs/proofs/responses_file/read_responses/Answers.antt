@@ -53,7 +53,8 @@ returns-clause-width g c =
     let read = c.in_ok-read_lines.ensures.stands (basis_for c.args.width c.args.vectors)
     (begins_any g (goal.at.returns-clause-width g c).After-new) in
     IfOk-weaker c.whole.result _ (λ (all : ObservationView). all.width ≡ c.args.width)
-    (λ all same. ap (λ (v : ObservationView). v.width) same ∙ read.stands.2.width ∙ sym (width_is c.args.width c.args.vectors))
+    (λ all same. ap (λ (v : ObservationView). v.width) same ∙ read.stands.2.width ∙ sym
+    (width_is c.args.width c.args.vectors))
     c.whole.ensures.same
 
 pub returns-clause-read : goal.returns-clause-read

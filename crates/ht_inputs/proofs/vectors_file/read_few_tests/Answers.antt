@@ -1,4 +1,4 @@
-use Rattle.std.proofs.Common.{◌≡◌, ◌≤◌, ◌<◌, Bool, true, length, refl, ap, subst, sym, rules, arith}
+use Rattle.std.proofs.Common.{◌≡◌, ◌≤◌, ◌<◌, ◌+◌, Bool, true, length, refl, ap, subst, sym, rules, arith}
 use Rattle.std.specs.Prelude.{None, Some, if◌then◌else◌}
 use Rattle.ht_asked.specs.Asked.{Kind, compact}
 use Rattle.ht_net.specs.Circuit.Netlist.{Netlist}
@@ -18,10 +18,14 @@ not_judged kind few = cc
 
 pub returns-in_err-list-clause-stops : goal.returns-in_err-list-clause-stops
 returns-in_err-list-clause-stops g c = λ job basis few same.
-    let stops = tests_stop job basis _ _ _ _ (λ line. not_judged job.command few)
-    (λ line text early wrong. subst (λ (b : Bool). IsWrongTest b basis.circuit text line) (sym few)
-    (record { malformed = wrong; early = early })) _
-    (subst (λ (n : Netlist). TestsStop n _ _ _ _ c.in_err-list.field-0.0) (sym same) c.in_err-list.ensures.stops) in
+    let a = g.D.Desk.view c.args.desk.now in
+    let b = g.D.Desk.view c.read_tests.new.desk in
+    let e = c.in_err-list.field-0.0 in
+    let stops = tests_stop job basis (MAX_COMPACTED + 1) c.args.name.now a b (λ line. not_judged job.command few)
+    (λ line text early wrong. subst (λ (few : Bool). IsWrongTest few basis.circuit text line) (sym few)
+    (record { malformed = wrong; early = early })) e
+    (subst (λ (n : Netlist). TestsStop n (MAX_COMPACTED + 1) c.args.name.now a b e) (sym same)
+    c.in_err-list.ensures.stops) in
     search (rules, stops)
 
 pub returns-then-len-gt-MAX_COMPACTED-clause-stops : goal.returns-then-len-gt-MAX_COMPACTED-clause-stops
@@ -29,7 +33,8 @@ returns-then-len-gt-MAX_COMPACTED-clause-stops g c = λ job basis few same.
     let many : MAX_COMPACTED < length c.in_ok-list.list.list =
     omega (arith, c.len.ensures, c.if-len-gt-MAX_COMPACTED.true) in (
       ap (λ (b : Bool). if b then Some Tests else None) few,
-      read_so (HasTooManyVectors basis.circuit) (λ text are. subst (λ (n : Netlist). HasTooManyVectors n text) (sym same)
+      read_so (HasTooManyVectors basis.circuit) (λ text are. subst (λ (n : Netlist). HasTooManyVectors n text)
+          (sym same)
           (record {
             list = c.in_ok-list.list.list;
             first = are.first;

@@ -1,4 +1,4 @@
-use Rattle.std.proofs.Common.{◌≡◌, ◌≤◌, ◌∙◌, ◌^◌, ◌-◌, ap, sym, subst, ℕ, List, Bool, length, refl, arith}
+use Rattle.std.proofs.Common.{◌≡◌, ◌≤◌, ◌∙◌, ◌^◌, ◌-◌, ap, sym, subst, ℕ, List, Bool, length, arith}
 use Rattle.std.specs.Prelude.{None, Some, Result, Ok, Err, IfErr, IfOk, if◌then◌else◌}
 use Rattle.ht_ports.specs.declared.ports.InPort.TheVariants.{Tests}
 use Rattle.ht_net.specs.Circuit.Netlist.{Netlist}
@@ -32,7 +32,8 @@ module _ (job : Asked) (is_gen : job.command ≡ gen) {basis : JobBasis} {first 
       (subst (λ (n : Netlist). IsTestText n text list.list) (sym same) (are.all (omega (arith, few)))))) read)
   goes_on (Err e) few read = tt
 
-  stops : HasFault job basis.circuit → (result : Result Rows RunError) → IfErr result (TestsStop c (2 ^ 64 - 1) name old new)
+  stops : HasFault job basis.circuit → (result : Result Rows RunError) → IfErr result
+      (TestsStop c (2 ^ 64 - 1) name old new)
       → IfErr result (EndsReading job first new)
   stops fault (Ok list) stop = tt
   stops fault (Err e) stop = stops_there before (at_tests is_gen) reads call (λ late. fault) e
