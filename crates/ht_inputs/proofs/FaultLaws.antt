@@ -1,12 +1,12 @@
 -- A fault that isn't one of the circuit: it is refused with one status, and with no other.
-use Rattle.std.proofs.Common.{◌≡◌, ◌≤◌, ◌<◌, ◌⊎◌, Bool, true, false, inl, inr, ℕ, List, length, refl, sym, ◌∙◌, ap, subst, arith}
-use Rattle.std.specs.Prelude.{Option, Some, None, if◌then◌else◌}
+use Rattle.std.proofs.Common.{◌≡◌, ◌≤◌, ◌<◌, ◌⊎◌, Bool, true, false, inl, inr, ℕ, List, length, refl, sym, ap, subst, arith}
+use Rattle.std.specs.Prelude.{Option, Some, None}
 use Rattle.std.proofs.lemmas.Bool.{cases_lt}
-use Rattle.ht_inputs.proofs.Common.{Asked, BadResponses, BadTests, Denied, DeskView, EndsReading, Extra, HasReadTo}
+use Rattle.ht_inputs.proofs.Common.{Asked, DeskView, EndsReading, Extra, HasReadTo}
 use Rattle.ht_inputs.proofs.Common.{InPort, IsGoodNetlist, IsInput, IsRefusedFor, JobBasis, ReadFault, RefusesInput}
-use Rattle.ht_inputs.proofs.Common.{RunError, StopsReading, Tern, TooManyVectors, Usage, WasRead, WriteFault}
+use Rattle.ht_inputs.proofs.Common.{RunError, StopsReading, Tern, Usage, WasRead, WriteFault}
 use Rattle.ht_inputs.proofs.Common.{exit_status, input_name, one_circuit, order_of, refused_port}
-use Rattle.ht_ports.specs.declared.ports.InPort.TheVariants.{Netlist, Tests, Report, Proofs, Faults}
+use Rattle.ht_ports.specs.declared.ports.InPort.TheVariants.{Netlist, Tests, Report, Proofs}
 use Rattle.ht_net.specs.Circuit.Netlist as net
 use Rattle.ht_faults.specs.Sites.{faults_of}
 use Rattle.ht_texts.specs.StartTexts.{IsMalformedStart}
@@ -14,13 +14,13 @@ use Rattle.ht_texts.proofs.StartLaws.{start_or_malformed}
 use Rattle.ht_words.specs.Jobs.{asked_by}
 use Rattle.ht_words.specs.declared.job.Job.{Job}
 use Rattle.ht_words.specs.declared.job.Job.TheVariants as job
-use Rattle.ht_inputs.specs.declared.run_error.RunError.TheVariants.{BadFaults, BadStart, NoMemory, NoSuchFault, Refused, TooLong}
-use Rattle.ht_inputs.specs.Inputs.{AcceptsBefore, AcceptsFile, AreGoodInputs, HasFault, IsListed, SaysBasis, SaysCircuit}
-use Rattle.ht_inputs.specs.Jobs.{judges, may_state_start, place_of, start_name}
+use Rattle.ht_inputs.specs.declared.run_error.RunError.TheVariants.{BadStart, NoMemory, NoSuchFault, Refused, TooLong}
+use Rattle.ht_inputs.specs.Inputs.{AcceptsFile, AreGoodInputs, HasFault, IsListed, SaysBasis}
+use Rattle.ht_inputs.specs.Jobs.{judges, may_state_start, place_of}
 use Rattle.ht_inputs.specs.Refusals.{AreRefusedWith, FaultStops, HasNoSuchFault, HasRefusedInputs, IsAbove, IsStartOf}
 use Rattle.ht_inputs.specs.Refusals.{LacksFault, NamesAbove}
-use Rattle.ht_inputs.proofs.InputLaws.{good_netlist, netlist_named, port_is, say_none}
-use Rattle.ht_inputs.proofs.ReadingLaws.{lacks_there, no_room, read_so}
+use Rattle.ht_inputs.proofs.InputLaws.{good_netlist, netlist_named, say_none}
+use Rattle.ht_inputs.proofs.ReadingLaws.{lacks_there, no_room}
 
 -- the circuit of the netlist that the desk tells is that of the netlist that was read
 same_told : (texts : InPort → List ℕ) (name : List ℕ) (a : DeskView) (c : net.Netlist) (asks : Asked)

@@ -1,10 +1,10 @@
 -- Texts that a job refuses say no basis, and are refused with one status.
-use Rattle.std.proofs.Common.{◌≡◌, ◌≢◌, ◌⊎◌, inl, inr, ℕ, ◌+◌, ◌<◌, ◌≤◌, Bool, true, false, List, [], length, refl, sym, ◌∙◌, ap, subst, arith}
+use Rattle.std.proofs.Common.{◌≡◌, ◌≢◌, ◌⊎◌, inl, inr, ℕ, ◌+◌, ◌<◌, ◌≤◌, Bool, true, false, List, length, refl, sym, ◌∙◌, ap, subst, arith}
 use Rattle.std.specs.Prelude.{IsSome, Some, Option, None, if◌then◌else◌}
 use Rattle.std.proofs.lemmas.Bool.{cases_lt}
-use Rattle.ht_inputs.proofs.Common.{AreClasses, Asked, BadResponses, BadTests, Denied, DeskView, Extra, InPort}
-use Rattle.ht_inputs.proofs.Common.{IsGoodNetlist, IsInput, IsMalformedTest, IsRefusedFor, IsTestText, JobBasis}
-use Rattle.ht_inputs.proofs.Common.{RefusesInput, RunError, SaysBasis, Tern, TooManyVectors, Trouble, before_proofs}
+use Rattle.ht_inputs.proofs.Common.{AreClasses, Asked, BadResponses, BadTests, Denied, Extra, InPort}
+use Rattle.ht_inputs.proofs.Common.{IsGoodNetlist, IsMalformedTest, IsRefusedFor, IsTestText, JobBasis}
+use Rattle.ht_inputs.proofs.Common.{RunError, SaysBasis, Tern, TooManyVectors, Trouble, before_proofs}
 use Rattle.ht_inputs.proofs.Common.{exit_status, input_name, one_circuit, order_of, refused_port, unknown_state}
 use Rattle.ht_ports.specs.declared.ports.InPort.TheVariants.{Netlist, Tests, Report, Proofs, Faults}
 use Rattle.ht_net.specs.Circuit.Netlist as net
@@ -15,7 +15,7 @@ use Rattle.ht_texts.proofs.ReaderLaws.{lines_few}
 use Rattle.ht_texts.proofs.StartLaws.{start_or_malformed}
 use Rattle.ht_texts.proofs.TestLaws.{never_both, one_list}
 use Rattle.ht_faults.proofs.ClassLaws.{one_list as one_classes}
-use Rattle.ht_asked.specs.Asked.{Kind, check, compact, report}
+use Rattle.ht_asked.specs.Asked.{Kind, compact}
 use Rattle.ht_compact.specs.TestsToCompact.{HasTooManyVectors, IsMalformedEarly}
 use Rattle.ht_compact.proofs.FirstVectorLaws.{few_or_many, malformed_or_many}
 use Rattle.ht_dictionary.proofs.ResponseLaws.{never_both as never_responses}

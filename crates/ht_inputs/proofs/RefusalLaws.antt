@@ -1,8 +1,8 @@
 -- What the end of reading tells of the texts of a job, whatever the error.
-use Rattle.std.proofs.Common.{◌≡◌, ◌≢◌, ◌⊎◌, inl, inr, ℕ, ◌≤◌, List, IsTrue, refl, sym, ◌∙◌, subst, arith}
+use Rattle.std.proofs.Common.{◌≡◌, ◌≢◌, ◌⊎◌, inl, inr, ℕ, ◌≤◌, List, IsTrue, refl, arith}
 use Rattle.std.specs.Prelude.{Some}
 use Rattle.std.proofs.lemmas.Bool.{cases_lt}
-use Rattle.ht_inputs.proofs.Common.{AcceptsInputs, DeskView, InPort, IsInput, IsRefusedFor, JobBasis}
+use Rattle.ht_inputs.proofs.Common.{AcceptsInputs, DeskView, InPort, IsInput, JobBasis}
 use Rattle.ht_inputs.proofs.Common.{ReadFault, RefusesInput, RunError, StopsReading, Usage, WriteFault, exit_status}
 use Rattle.ht_inputs.proofs.Common.{input_name, order_of}
 use Rattle.ht_ports.specs.Causes.{Rose}

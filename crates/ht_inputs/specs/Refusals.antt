@@ -24,7 +24,7 @@ use Rattle.ht_valid.specs.declared.trouble.Trouble.TheVariants as trouble
 use Rattle.ht_asked.specs.Asked.{Asked, Kind, check, report}
 use Rattle.ht_inputs.specs.declared.run_error.RunError.{RunError}
 use Rattle.ht_inputs.specs.declared.run_error.RunError.TheVariants.{Denied, TooLong, Refused, BadStart, BadTests, TooManyVectors, BadResponses, NoMemory, NoSuchFault, BadFaults}
-use Rattle.ht_inputs.specs.Inputs.{AcceptsBefore, HasFault, HasNetlist, IsInput, IsListed, IsStated, IsUnread, JobBasis, AreGoodProofs, IsGoodNetlist, SaysBasis, WasRead}
+use Rattle.ht_inputs.specs.Inputs.{AcceptsBefore, HasFault, HasNetlist, IsInput, IsStated, IsUnread, JobBasis, AreGoodProofs, IsGoodNetlist, SaysBasis, WasRead}
 use Rattle.ht_inputs.specs.Errors.{exit_status}
 use Rattle.ht_inputs.specs.Jobs.{input_name, judges, may_state_start, order_of, start_name, takes_few}
 
