@@ -93,11 +93,11 @@ read_verdicts-requires-clause-graded g c = c.in_ok-graded.ensures.graded.of_circ
 
 pub returns-in_err-claims : goal.returns-in_err-claims
 returns-in_err-claims g c =
-    let f = c.args.files.now in
     let at = goal.at.returns-in_err-claims g c in
     let ends = stops_there (vectors_read g at.In_ok-graded [] []) refl (ap Some (sym c.as_str.ensures))
-    c.in_err-claims.ensures.frame (λ is. tt) c.in_err-claims.field-0.0 (c.in_err-claims.ensures.stops f.netlist f.tests
-    f.proofs f.report c.args.start.now (said g at.In_ok-graded [] []) refl refl c.in_ok-graded.ensures.graded.first) in
+    c.in_err-claims.ensures.frame (λ is. tt) c.in_err-claims.field-0.0 (c.in_err-claims.ensures.stops
+    (job c.args.files.now c.args.budget c.args.start.now) (said g at.In_ok-graded [] []) refl refl refl refl
+    c.in_ok-graded.ensures.graded.first) in
     record { made = search rules; stopped = search (rules, ends) }
 
 -- ---- the report
