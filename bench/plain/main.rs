@@ -5,6 +5,7 @@
 //! simulated 64 to a word and by events, windows are changed in place by events and by a trail. What a step of the
 //! generator adds to a file is written before the next step begins. A netlist is read in normal text. It and the tests
 //! of `sim` have to be ones that `ht_cli` accepts: they aren't judged here.
+mod breed;
 mod circuit;
 mod clauses;
 mod families;
@@ -12,6 +13,7 @@ mod faults;
 mod grading;
 mod guide;
 mod judge;
+mod lanes;
 mod parse;
 mod random;
 mod relevant;
@@ -26,6 +28,7 @@ mod windows;
 mod words;
 mod work;
 
+use breed::Breeder;
 use circuit::{Circuit, Order};
 use families::Families;
 use faults::FaultList;
@@ -44,7 +47,7 @@ use work::{Entry, Work, Worker};
 const USAGE: &str = "usage: sim NETLIST TESTS REPORT, gen NETLIST TESTS REPORT PROOFS BUDGET RANDOM SEED, \
                      check NETLIST TESTS REPORT PROOFS, uninit NETLIST OUT BUDGET, \
                      sync NETLIST TESTS OUT BUDGET, close NETLIST, \
-                     respond NETLIST TESTS OUT FAULT";
+                     respond NETLIST TESTS OUT FAULT, breed NETLIST TESTS OUT VECTORS SEED";
 
 /// The circuit of a netlist. `PLAIN_ORDER` says in which order its gates have their places: `lines`, `level` or `kind`.
 fn read_circuit(name: &str) -> Result<Circuit, Box<dyn Error>> {
@@ -215,6 +218,36 @@ fn respond(netlist: &str, tests: &str, out: &str, number: usize) -> Result<(), B
     Ok(())
 }
 
+/// The vectors of some tests, and then at most `most` bred ones. `PLAIN_BURSTS` has each burst told on standard error: how
+/// many vectors it has, and how many representatives are detected.
+fn breed(names: [&str; 3], most: usize, seed: u64) -> Result<(), Box<dyn Error>> {
+    let circuit = read_circuit(names[0])?;
+    let given = judge::read_tests(&circuit, &fs::read(names[1])?)?;
+    let list = FaultList::of(&circuit);
+    let own: Vec<_> = list.own().into_iter().map(|i| list.faults[i as usize]).collect();
+    let mut grader = Grader::new(&circuit, own.clone());
+    let mut breeder = Breeder::new(&circuit, &own, seed);
+    let mut text = BufWriter::new(File::create(names[2])?);
+    for vector in &given {
+        breeder.apply(&mut grader, vector);
+        writeln!(text, "{}", texts::bits(vector))?;
+    }
+    let mut bred = 0;
+    while bred < most && circuit.inputs > 0 && !grader.live.is_empty() {
+        let burst = breeder.burst(&mut grader, most - bred);
+        bred += burst.len();
+        for vector in &burst {
+            writeln!(text, "{}", texts::bits(vector))?;
+        }
+        if env::var_os("PLAIN_BURSTS").is_some() {
+            eprintln!("burst {} detected {}", burst.len(), own.len() - grader.live.len());
+        }
+    }
+    text.flush()?;
+    println!("vectors {} bred {bred} detected {} of {}", given.len(), own.len() - grader.live.len(), own.len());
+    Ok(())
+}
+
 fn run(words: &[&str]) -> Result<i32, Box<dyn Error>> {
     match *words {
         ["sim", netlist, tests, report] => sim(netlist, tests, report).map(|()| 0),
@@ -235,6 +268,7 @@ fn run(words: &[&str]) -> Result<i32, Box<dyn Error>> {
         ["uninit", netlist, out, budget] => uninit(netlist, out, budget.parse()?).map(|()| 0),
         ["sync", netlist, tests, out, budget] => synchronize(netlist, tests, out, budget.parse()?).map(|()| 0),
         ["respond", netlist, tests, out, number] => respond(netlist, tests, out, number.parse()?).map(|()| 0),
+        ["breed", netlist, tests, out, most, seed] => breed([netlist, tests, out], most.parse()?, seed.parse()?).map(|()| 0),
         ["close", netlist] => close(netlist).map(|()| 0),
         _ => Err(USAGE.into()),
     }

@@ -19,7 +19,8 @@ import re
 import sys
 
 sys.dont_write_bytecode = True
-sys.path.insert(0, str(pathlib.Path(__file__).resolve().parent.parent.parent / "tools"))
+TOOLS = pathlib.Path(__file__).resolve().parent.parent.parent / "tools"
+sys.path[:0] = [str(TOOLS), str(TOOLS / "lib")]
 import check_proofs  # noqa: E402
 from applied import read_applied  # noqa: E402
 

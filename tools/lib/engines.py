@@ -1,6 +1,6 @@
 """The model checker ABC and the SAT solver CaDiCaL, as tools/close asks them. What they say is taken as a hint, never as true.
 
-ABC gets the two machines of a fault side by side (tools/miter.py). It finds frames in which the output is 1, or cubes of
+ABC gets the two machines of a fault side by side (tools/lib/miter.py). It finds frames in which the output is 1, or cubes of
 latches, none of which ever comes about, so that the output is never 1. CaDiCaL gets clauses and finds lemmas that end with a
 contradiction, or a solution. Each works for some seconds of a processor, and is ended where it takes more.
 """
