@@ -2,13 +2,15 @@
 use Rattle.std.proofs.Common.{◌≡◌, ◌≤◌, List, ℕ, Bool, Option, false, refl, arith}
 use Rattle.std.specs.Prelude.{None}
 use Rattle.ht_app.proofs.Common.{Asked, Content, DeskView, HasReadTo, InPort, Numbered, RunFiles, Said}
-use Rattle.ht_app.proofs.Common.{check, check_basis, input_name, order_of}
+use Rattle.ht_app.proofs.Common.{check_basis, input_name, order_of}
+use Rattle.ht_words.specs.Jobs.{asked_by}
+use Rattle.ht_words.specs.declared.job.Job.TheVariants as job_of
 use Rattle.ht_ports.specs.declared.ports.InPort.TheVariants.{Faults, Netlist}
 use Rattle.ht_inputs.specs.Grading.{IsGraded, JudgesFiles}
 use Rattle.ht_inputs.specs.declared.graded.Graded.{Graded}
 
 abbrev pub job : RunFiles → Option (List ℕ) → Asked
-job files start = check files.netlist files.tests files.report files.proofs start
+job files start = asked_by (job_of.Check files start)
 
 -- `check` judges the files by the netlist, the start and the tests
 pub judges : (files : RunFiles) (start : Option (List ℕ)) → JudgesFiles (job files start) files start

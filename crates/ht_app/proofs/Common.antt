@@ -6,8 +6,8 @@ pub use Rattle.ht_app.specs.Outputs.{MakesOutput, ending, file_acts, response_ac
 pub use Rattle.ht_app.specs.Run.{HasCause}
 pub use Rattle.ht_app.specs.Steps.{Does, EndsJob, IsPrepared, PermitsAll, Tries, reading, writing}
 pub use Rattle.ht_app.specs.declared.generate.sizes.Sizes.{Sizes}
-pub use Rattle.ht_asked.specs.Asked.{Asked, GenOptions, check, compact, demo, diagnose, gen, norm, respond, sim, sync}
-pub use Rattle.ht_asked.specs.Asked.{uninit, words_of}
+pub use Rattle.ht_asked.specs.Asked.{Asked}
+pub use Rattle.ht_asked.specs.Commands.{words_of}
 pub use Rattle.ht_bench.proofs.OneLaws.{one_circuit}
 pub use Rattle.ht_bench.specs.Text.{IsNetlistOf, max_netlist_bytes}
 pub use Rattle.ht_faults.specs.Classes.{AreClasses}

@@ -1,8 +1,11 @@
 -- What `demo` says.
-use Rattle.std.proofs.Common.{◌≡◌, inl, ℕ, List, [], ◌∷◌, true, false, refl, ◌∙◌, ap, subst}
+use Rattle.std.proofs.Common.{◌≡◌, inl, ℕ, List, [], ◌∷◌, true, false, refl, sym, ◌∙◌, ap, subst}
 use Rattle.std.specs.Prelude.{Result, Ok, Err, Some, None}
 use Rattle.ht_app.proofs.Common.{AcceptsInputs, AreClasses, AreFinished, Asked, ChangedOnly, DeskView, Does, EndsJob}
-use Rattle.ht_app.proofs.Common.{EngineStandsFor, EngineView, HasSameWork, Out, RunError, Settings, Step, Tries, demo}
+use Rattle.ht_app.proofs.Common.{EngineStandsFor, EngineView, HasSameWork, Out, RunError, Settings, Step, Tries}
+use Rattle.ht_words.specs.Jobs.{asked_by}
+use Rattle.ht_words.specs.declared.job.Job.TheVariants as job_of
+use Rattle.ht_inputs.proofs.InputLaws.{demo_reads_none}
 use Rattle.ht_app.proofs.Common.{demo_netlist, put, reading, with_lf}
 use Rattle.ht_net.specs.Circuit.Netlist as net
 use Rattle.ht_texts.specs.Reports.{head_line}
@@ -39,14 +42,14 @@ pub total_found : {c : net.Netlist} {representatives : List ℕ} {e new : Engine
     → IsTotalOf c e.settings total
 total_found {c = c} {new = new} total of_c of_r same all found =
     subst (λ (s : Settings). IsTotalOf c s total) same.settings (found all.0 all.1
-    (of_circuit (λ d r. AreFinished d r new.settings all.0) new (same.circuit ∙ of_c)
+        (of_circuit (λ d r. AreFinished d r new.settings all.0) new (same.circuit ∙ of_c)
     (same.representatives ∙ of_r) all.2))
 
 -- ---- what it leaves
 
 module _ (size seed : ℕ) where
   abbrev job : Asked
-  job = demo size seed
+  job = asked_by (job_of.Demo size seed)
 
   no_change : (a : DeskView) → ChangedOnly (reading job) a a
   no_change a = (nothing_written (reading job) a).changed
@@ -54,7 +57,7 @@ module _ (size seed : ℕ) where
   inputs : (a : DeskView) → AcceptsInputs job (basis_of no_circuit [] []) a
   inputs a = record {
     stated = λ none. refl;
-    each = λ p name is. let none : None ≡ Some name = is in absurd (cc);
+    each = λ p name is. let none : None ≡ Some name = sym (demo_reads_none size seed p) ∙ is in absurd (cc);
     circuit = λ some. let none : false ≡ true = some in absurd (cc);
   }
 

@@ -5,9 +5,12 @@ use Rattle.std.specs.List.{list_any}
 use Rattle.std.proofs.lemmas.List.{length-append}
 use Rattle.std.proofs.lemmas.List.Folds.{list_any-append}
 use Rattle.ht_app.proofs.Common.{AcceptsInputs, Act, AreClasses, AreFinished, AreSteps, Asked, ChangedOnly, DeskView}
-use Rattle.ht_app.proofs.Common.{Does, EndsJob, EngineStandsFor, EngineView, Entry, Extra, Finished, GenOptions}
+use Rattle.ht_app.proofs.Common.{Does, EndsJob, EngineStandsFor, EngineView, Entry, Extra, Finished}
 use Rattle.ht_app.proofs.Common.{HasSameWork, InPort, IsGenerated, JobBasis, Out, OutPort, PermitsAll, Ports}
-use Rattle.ht_app.proofs.Common.{Rows, RunError, RunFiles, Settings, Step, Tries, Vectors, WritesAll, ending, gen}
+use Rattle.ht_app.proofs.Common.{Rows, RunError, RunFiles, Settings, Step, Tries, Vectors, WritesAll, ending}
+use Rattle.ht_words.specs.Jobs.{asked_by}
+use Rattle.ht_words.specs.declared.job.GenOptions.{GenOptions}
+use Rattle.ht_words.specs.declared.job.Job.TheVariants as job_of
 use Rattle.ht_app.proofs.Common.{input_name, line_text, makes, max_text_bytes, order_of, proofs_of, proofs_so_far}
 use Rattle.ht_app.proofs.Common.{put, reading, step_acts, tests_of, with_lf, writing}
 use Rattle.ht_ports.specs.declared.ports.InPort.TheVariants as in_port
@@ -45,7 +48,8 @@ module _ (files : RunFiles) (c : net.Netlist) (settings : Settings) {representat
   }
 
   -- if the acts up to the last step stop by an error, so do the files
-  pub stops_in_steps : {e : RunError} {a b : DeskView} → Tries {A = Unit {0}} (begun_acts files settings steps) (Err e) a b
+  pub stops_in_steps : {e : RunError} {a b : DeskView} → Tries {A = Unit {0}} (begun_acts files settings steps)
+      (Err e) a b
       → WritesAll files c settings (Err e) a b
   stops_in_steps tries =
       record { acts = begun_acts files settings steps; tries = tries; done = tt; stopped = inl steps_written }
@@ -118,7 +122,7 @@ generated {c = c} {representatives = representatives} {old = old} {steps = steps
     let are = subst (λ (s : Settings). AreFinished c representatives s steps) (sym same.settings)
     (of_circuit (λ d r. AreFinished d r old.settings steps) old of_c of_r finished) in
     subst (λ (s : Settings). IsGenerated c s (tests_of steps) (body ++ total) (proofs_of s steps) total) same.settings
-    (reports steps stands are plain tests_fit proofs_fit)
+        (reports steps stands are plain tests_fit proofs_fit)
 
 -- ---- what is permitted
 
@@ -144,19 +148,17 @@ module _ (ports : Ports) (tests : ports.writes Tests ≡ true) (proofs : ports.w
       (made_still Proofs before (step_acts step) of_proofs) steps)
 
   begun_permitted : {files : RunFiles} {c : net.Netlist} {settings : Settings} {acts : List Act}
-      → PermitsAll ports [] (begun_acts files settings []) → WritesSteps files c settings acts → PermitsAll ports [] acts
+      → PermitsAll ports [] (begun_acts files settings []) → WritesSteps files c settings acts
+      → PermitsAll ports [] acts
   begun_permitted {files = files} {settings = settings} first w = subst (PermitsAll ports []) (sym w.acts_are)
       (permits_then ports [] (begun_acts files settings []) (flat_map step_acts w.steps) first
       (steps_permitted (begun_acts files settings []) refl refl w.steps))
 
 -- ---- the end of the job
 
-module _ (netlist tests report proofs : List ℕ) (options : GenOptions) where
+module _ (files : RunFiles) (options : GenOptions) where
   abbrev job : Asked
-  job = gen netlist tests report proofs options
-
-  abbrev files : RunFiles
-  files = record { netlist = netlist; tests = tests; report = report; proofs = proofs }
+  job = asked_by (job_of.Gen files options)
 
   steps_may : {settings : Settings} {c : net.Netlist} {acts : List Act} → WritesSteps files c settings acts
       → PermitsAll (writing job) [] acts
@@ -173,17 +175,18 @@ module _ (netlist tests report proofs : List ℕ) (options : GenOptions) where
   -- `gen` ends as its files do, once its inputs are accepted
   pub ends_files : {basis : JobBasis} {a m b : DeskView} → ChangedOnly (reading job) a m → AcceptsInputs job basis a
       → (result : Result (Unit {0}) RunError)
-      → WritesAll files basis.circuit (settings_of basis options) result m b
+      → WritesAll files basis.circuit (settings_of basis job) result m b
       → EndsJob job result a b
   ends_files x inputs (Ok value) w =
-      ends_tries job x inputs w.acts (Ok value) w.tries (files_may w.done) w.done tt
+      ends_tries job x inputs w.acts (Ok value) w.tries (files_may w.done) (files, refl, w.done) tt
   ends_files x inputs (Err e) w = elim w.stopped [
     | inl part ↦ ends_tries job x inputs w.acts (Err e) w.tries (steps_may part) tt (inl (
-      part,
+      (files, refl, part),
       begun_permitted (begun job) refl refl
           ((refl, refl), ((refl, refl), ((refl, refl), ((refl, λ file. refl), tt)))) part,
     ))
-    | inr whole ↦ ends_tries job x inputs w.acts (Err e) w.tries (files_may whole.1) tt (inr whole)
+    | inr whole ↦ ends_tries job x inputs w.acts (Err e) w.tries (files_may whole.1) tt
+        (inr (whole.0, (files, refl, whole.1)))
   ]
 
   -- `gen` reads no file after the list of faults

@@ -25,8 +25,10 @@ use Rattle.ht_files.specs.StepTexts.{proofs_of, proofs_so_far, step_text, tests_
 use Rattle.ht_faults.specs.Sites.{faults_of}
 use Rattle.ht_uninit.specs.Records.{IsUninit, UninitHolds, UninitState}
 use Rattle.ht_uninit.specs.UninitTexts.{uninit_text, uninit_total}
-use Rattle.ht_asked.specs.Asked as asked
-use Rattle.ht_asked.specs.Asked.{Asked, GenOptions, sim, gen, check, norm, demo, compact, diagnose, uninit, sync, respond}
+use Rattle.ht_asked.specs.Asked.{Asked, Kind}
+use Rattle.ht_asked.specs.Asked.{sim, gen, check, norm, demo, compact, diagnose, uninit, sync, respond, report}
+use Rattle.ht_words.specs.Jobs.{made_by}
+use Rattle.ht_app.specs.Changed.{output_name}
 use Rattle.ht_sync.specs.SyncSearches.{FindsWithin, IsSynchronized, SynchronizedHolds}
 use Rattle.ht_sync.specs.SyncTexts.{last_sync_line, sync_list, sync_said, sync_text}
 use Rattle.ht_sync.specs.declared.synchronizing.Synchronized.{Synchronized}
@@ -74,12 +76,16 @@ pub record WritesFile (port : OutPort) (name : List ℕ) (AreSo : List ℕ → L
   pub acts_are : acts ≡ file_acts port name body total
 
 -- the commands that read no proofs, and write one file so
-abbrev pub MakesOneFile : Asked → Type 0
-MakesOneFile (sim netlist tests report start) = Unit {0}
-MakesOneFile (compact netlist tests out) = Unit {0}
-MakesOneFile (diagnose netlist tests responses out) = Unit {0}
-MakesOneFile (uninit netlist out budget) = Unit {0}
-MakesOneFile job = ⊥
+abbrev pub MakesOneFile : Kind → Type 0
+MakesOneFile sim = Unit {0}
+MakesOneFile compact = Unit {0}
+MakesOneFile diagnose = Unit {0}
+MakesOneFile uninit = Unit {0}
+MakesOneFile kind = ⊥
+
+-- The job makes a file at the port, of whose name this is so.
+abbrev pub MakesAt : Asked → OutPort → (List ℕ → Type 0) → Type 0
+MakesAt job port IsSo = (name : List ℕ) × (output_name job port ≡ Some name) × IsSo name
 
 -- ---- `check`
 
@@ -113,16 +119,16 @@ search_of true = Deep
 search_of false = Plain
 
 -- what the options of `gen`, and the files that they name, tell the generator
-abbrev pub settings_of : JobBasis → GenOptions → Settings
-settings_of basis options = record {
-  budget = options.budget;
-  random = options.random;
-  seed = options.seed;
-  weighted = options.weighted;
-  search = search_of options.deep;
+abbrev pub settings_of : JobBasis → Asked → Settings
+settings_of basis job = record {
+  budget = job.numbers.budget;
+  random = job.numbers.random;
+  seed = job.numbers.seed;
+  weighted = job.numbers.weighted;
+  search = search_of job.numbers.deep;
   start = basis.content.start;
-  first = record { width = basis.circuit.inputs; list = where_named options.first basis.content.list };
-  chosen = option_map (λ _. basis.chosen) options.faults;
+  first = record { width = basis.circuit.inputs; list = where_named job.reads.tests basis.content.list };
+  chosen = option_map (λ _. basis.chosen) job.reads.faults;
 }
 
 -- the creation of the three files
@@ -288,35 +294,41 @@ pub record WritesResponses (out : List ℕ) (c : net.Netlist) (number : Option �
 
 -- ---- all commands
 
--- What a command does to its outputs, once its inputs say the basis.
-abbrev pub MakesOutput : Asked → JobBasis → List Act → Type 0
-MakesOutput (sim netlist tests report start) basis acts =
-    WritesFile Report report
-    (λ body total. IsReportOf basis.circuit basis.content.start basis.content.list (body ++ total) total) acts
-MakesOutput (gen netlist tests report proofs options) basis acts =
-    WritesFiles (record { netlist = netlist; tests = tests; report = report; proofs = proofs }) basis.circuit
-    (settings_of basis options) acts
-MakesOutput (check netlist tests report proofs start) basis acts = AreTrue basis × (acts ≡ put Out (codes "valid\n") ∷ [])
-MakesOutput (norm netlist out) basis acts = acts ≡ make Report out ∷ put Report (normal_text basis.circuit) ∷ []
-MakesOutput (demo size seed) basis acts = SaysTotals size seed acts
-MakesOutput (compact netlist tests out) basis acts =
-    WritesFile Tests out (IsCompactionOf basis.circuit basis.content.list) acts
-MakesOutput (diagnose netlist tests responses out) basis acts =
-    WritesFile Report out
-    (λ body total. IsDiagnosisReport basis.circuit basis.content.list basis.rows (body ++ total) total) acts
-MakesOutput (uninit netlist out budget) basis acts =
-    WritesFile Report out (λ body total. IsUninitReport basis.circuit budget (body ++ total) total) acts
-MakesOutput (sync netlist tests out budget) basis acts = WritesSync tests out basis.circuit budget acts
-MakesOutput (respond netlist tests out number start) basis acts =
-    WritesResponses out basis.circuit number basis.content.start basis.content.list acts
-MakesOutput (asked.report netlist tests proofs out budget start) basis acts =
-    (basis.content.budget ≡ budget) × AreTrue basis × WritesFile Report out (λ body total. IsReportOfVerdicts
-    basis.circuit basis.representatives basis.content.budget basis.content.saids (body ++ total) total) acts
+-- What each command does to its outputs, once its inputs say the basis.
+abbrev pub OutputOf : Kind → Asked → JobBasis → List Act → Type 0
+OutputOf sim job basis acts = MakesAt job Report (λ out. WritesFile Report out
+    (λ body total. IsReportOf basis.circuit basis.content.start basis.content.list (body ++ total) total) acts)
+OutputOf gen job basis acts = (files : RunFiles) × (job.makes ≡ made_by files)
+    × WritesFiles files basis.circuit (settings_of basis job) acts
+OutputOf check job basis acts = AreTrue basis × (acts ≡ put Out (codes "valid\n") ∷ [])
+OutputOf norm job basis acts =
+    MakesAt job Report (λ out. acts ≡ make Report out ∷ put Report (normal_text basis.circuit) ∷ [])
+OutputOf demo job basis acts = SaysTotals job.numbers.size job.numbers.seed acts
+OutputOf compact job basis acts =
+    MakesAt job Tests (λ out. WritesFile Tests out (IsCompactionOf basis.circuit basis.content.list) acts)
+OutputOf diagnose job basis acts = MakesAt job Report (λ out. WritesFile Report out
+    (λ body total. IsDiagnosisReport basis.circuit basis.content.list basis.rows (body ++ total) total) acts)
+OutputOf uninit job basis acts = MakesAt job Report (λ out. WritesFile Report out
+    (λ body total. IsUninitReport basis.circuit job.numbers.budget (body ++ total) total) acts)
+OutputOf sync job basis acts = MakesAt job Tests (λ tests.
+    MakesAt job Report (λ out. WritesSync tests out basis.circuit job.numbers.budget acts))
+OutputOf respond job basis acts = MakesAt job Report (λ out.
+    WritesResponses out basis.circuit job.numbers.fault basis.content.start basis.content.list acts)
+OutputOf report job basis acts = (basis.content.budget ≡ job.numbers.budget) × AreTrue basis
+    × MakesAt job Report (λ out. WritesFile Report out (λ body total. IsReportOfVerdicts basis.circuit
+    basis.representatives basis.content.budget basis.content.saids (body ++ total) total) acts)
 
--- What it does while it may still ask for memory.
+-- what the command of a job does
+abbrev pub MakesOutput : Asked → JobBasis → List Act → Type 0
+MakesOutput job = OutputOf job.command job
+
+-- What each command does while it may still ask for memory.
+abbrev pub BeginningOf : Kind → Asked → JobBasis → List Act → Type 0
+BeginningOf gen job basis acts = (files : RunFiles) × (job.makes ≡ made_by files)
+    × WritesSteps files basis.circuit (settings_of basis job) acts
+BeginningOf demo job basis acts = SaysHead job.numbers.size job.numbers.seed acts
+BeginningOf kind job basis acts = ⊥
+
+-- what the command of a job does
 abbrev pub BeginsOutput : Asked → JobBasis → List Act → Type 0
-BeginsOutput (gen netlist tests report proofs options) basis acts =
-    WritesSteps (record { netlist = netlist; tests = tests; report = report; proofs = proofs }) basis.circuit
-    (settings_of basis options) acts
-BeginsOutput (demo size seed) basis acts = SaysHead size seed acts
-BeginsOutput job basis acts = ⊥
+BeginsOutput job = BeginningOf job.command job

@@ -8,6 +8,7 @@ use Rattle.ht_ports.specs.Numbered.{numbered}
 use Rattle.ht_bench.specs.RefusalText.{refusal_text}
 use Rattle.ht_valid.specs.declared.trouble.Trouble.TheVariants.{Tests, Report, Proofs, Fault}
 use Rattle.ht_asked.specs.Asked.{Asked}
+use Rattle.ht_asked.specs.Usage.{usage_line}
 use Rattle.ht_inputs.specs.declared.run_error.RunError.{RunError}
 use Rattle.ht_inputs.specs.declared.run_error.RunError.TheVariants.{Denied, Usage, TooLong, Refused, ReadFault, WriteFault, NoMemory, BadStart, BadTests, TooManyVectors, BadResponses, NoSuchFault, BadFaults}
 use Rattle.ht_inputs.specs.Errors.{exit_status}
@@ -79,14 +80,7 @@ err_line (Denied (Tests line)) = numbered (codes "denied: tests line ") line (co
 err_line (Denied (Report line)) = numbered (codes "denied: report line ") line (codes "\n")
 err_line (Denied (Proofs line)) = numbered (codes "denied: proofs line ") line (codes "\n")
 err_line (Denied (Fault number)) = numbered (codes "denied: fault ") number (codes "\n")
-err_line Usage = codes "usage: sim NETLIST TESTS REPORT [--start FILE], " ++
-    codes "gen NETLIST TESTS REPORT PROOFS [--budget N] [--random N] [--seed S] [--start FILE] " ++
-    codes "[--first FILE] [--faults FILE] [--weighted N] [--search plain|deep], " ++
-    codes "check NETLIST TESTS REPORT PROOFS [--start FILE], norm NETLIST OUT, demo SIZE SEED, " ++
-    codes "compact NETLIST TESTS OUT, diagnose NETLIST TESTS RESPONSES OUT, " ++
-    codes "uninit NETLIST OUT [--budget N], sync NETLIST TESTS OUT [--budget N], " ++
-    codes "respond NETLIST TESTS OUT [--fault N] [--start FILE], " ++
-    codes "report NETLIST TESTS PROOFS REPORT [--budget N] [--start FILE]\n"
+err_line Usage = usage_line
 err_line TooLong = codes "netlist: too long\n"
 err_line (Refused error) = codes "netlist: " ++ (refusal_text error ++ codes "\n")
 err_line ReadFault = codes "read fault\n"

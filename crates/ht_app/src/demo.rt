@@ -10,8 +10,9 @@ ghost use Rattle.ht_engine.specs.EngineStands.{EngineStandsFor, HasSameWork};
 ghost use Rattle.ht_engine.specs.Steps.{AreFinished};
 ghost use Rattle.ht_tree.specs.declared.limits.TheConstants.{MAX_BUDGET};
 ghost use Rattle.ht_files.specs.Generated.{IsTotalOf};
-ghost use Rattle.ht_asked.specs.Asked as asked;
 ghost use Rattle.ht_asked.specs.declared.limits.TheConstants.{MAX_SIZE, MIN_SIZE};
+ghost use Rattle.ht_words.specs.Jobs.{asked_by};
+ghost use Rattle.ht_words.specs.declared.job.Job.TheVariants as job_of;
 ghost use Rattle.ht_app.specs.Acts.{put as put_act};
 ghost use Rattle.ht_app.specs.Outputs.{SaysHead, demo_settings};
 ghost use Rattle.ht_app.specs.Steps.{EndsJob};
@@ -186,7 +187,7 @@ fn say_lines<D: Desk>(
     requires classes { AreClasses prepared.now.circuit prepared.now.listed.classes }
     ensures { (size : ℕ) → prepared.now.circuit ≡ demo_netlist size seed
         → SaysHead size seed (put_act out_port.Out prepared.now.head.items ∷ [])
-        → EndsJob (asked.demo size seed) result (D.view desk.old) (D.view desk.new) }
+        → EndsJob (asked_by (job_of.Demo size seed)) result (D.view desk.old) (D.view desk.new) }
 {
     put(desk, OutPort::Out, &prepared.head)?;
     let total = find_total(alloc, prepared, seed)?;
@@ -200,7 +201,8 @@ fn say_lines<D: Desk>(
 /// `NoMemory`, or `WriteFault`.
 pub fn demo<D: Desk>(alloc: Global, size: u32, seed: u64, desk: &mut D) -> Result<(), RunError>
     requires { (MIN_SIZE ≤ size) × (size ≤ MAX_SIZE) }
-    ensures { EndsJob (asked.demo size seed) result (D.view desk.old) (D.view desk.new) }
+    ensures { EndsJob (asked_by (job_of.Demo size seed)) result (D.view desk.old) (D.view desk.new)
+        }
 {
     let prepared = prepare(alloc, size, seed)?;
     let said = say_lines(alloc, &prepared, seed, desk);

@@ -10,8 +10,7 @@ ghost use Rattle.ht_faults.specs.Sites.{faults_of};
 ghost use Rattle.ht_faults.specs.Classes.{AreClasses};
 ghost use Rattle.ht_texts.specs.SearchReports.{HasPlainNames};
 ghost use Rattle.ht_asked.specs.declared.limits.TheConstants.{MAX_BUDGET, MIN_BUDGET};
-ghost use Rattle.ht_asked.specs.Ranges.{AreOptions};
-ghost use Rattle.ht_words.specs.Jobs.{asked_by, options_by};
+ghost use Rattle.ht_words.specs.Jobs.{asked_by};
 ghost use Rattle.ht_words.specs.declared.job.Job.TheVariants as job_of;
 ghost use Rattle.ht_inputs.specs.Inputs.{HasNetlist, IsStated, JobBasis};
 ghost use Rattle.ht_inputs.specs.Reading.{HasReadTo};
@@ -123,7 +122,7 @@ fn generate_chosen<D: Desk>(
     requires latches { IsStart circuit.now start.items }
     requires width { first.width ≡ circuit.now.inputs }
     requires none { options.now.first ≡ None → first.list ≡ [] }
-    requires options { AreOptions (options_by options.now) }
+    requires budget { (MIN_BUDGET ≤ options.now.budget) × (options.now.budget ≤ MAX_BUDGET) }
     ensures { (before : DeskView) → ((basis : JobBasis) → basis.circuit ≡ circuit.now
         → basis.content.start ≡ start.items → basis.content.list ≡ first.list
         → HasReadTo (asked_by (job_of.Gen files.now options.now)) basis 3 before (D.view desk.old))
@@ -148,7 +147,7 @@ fn generate_for<D: Desk>(
 ) -> Result<(), RunError>
     requires circuit { IsCircuit circuit.now }
     requires netlist { HasNetlist circuit.now }
-    requires options { AreOptions (options_by options.now) }
+    requires budget { (MIN_BUDGET ≤ options.now.budget) × (options.now.budget ≤ MAX_BUDGET) }
     ensures { (first : DeskView) → ((basis : JobBasis) → basis.circuit ≡ circuit.now
         → IsStated (asked_by (job_of.Gen files.now options.now)) basis
         → HasReadTo (asked_by (job_of.Gen files.now options.now)) basis 1 first (D.view desk.old))
@@ -174,7 +173,7 @@ pub fn generate<D: Desk>(
     options: &GenOptions,
     desk: &mut D,
 ) -> Result<(), RunError>
-    requires { AreOptions (options_by options.now) }
+    requires { (MIN_BUDGET ≤ options.now.budget) × (options.now.budget ≤ MAX_BUDGET) }
     ensures { EndsJob (asked_by (job_of.Gen files.now options.now)) result (D.view desk.old)
         (D.view desk.new) }
 {

@@ -2,7 +2,8 @@
 ghost use Rattle.std.specs.Prelude.{◌≡◌, ◌≤◌, List, ℕ, IfOk, IfErr, IfSome};
 ghost use Rattle.ht_net.specs.Detect.Detection.{IsStart};
 ghost use Rattle.ht_dictionary.specs.Responses.{IsResponses};
-ghost use Rattle.ht_asked.specs.Asked as asked;
+ghost use Rattle.ht_words.specs.Jobs.{asked_by};
+ghost use Rattle.ht_words.specs.declared.job.Job.TheVariants as job_of;
 ghost use Rattle.ht_app.specs.Outputs.{IsMachineOf, response_acts};
 ghost use Rattle.ht_inputs.specs.Refusals.{FaultStops};
 ghost use Rattle.ht_app.specs.Steps.{EndsJob, Prepares};
@@ -82,7 +83,7 @@ fn make_texts<D: Desk>(
 ) -> Result<ResponseTexts, RunError>
     requires { IfSome number (λ n. (MIN_FAULT ≤ n) × (n ≤ MAX_FAULT)) }
     ensures { (out : List ℕ) → Prepares
-        (asked.respond netlist.now tests.now out number start.now)
+        (asked_by (job_of.Respond netlist.now tests.now out number start.now))
         (λ texts. response_acts out texts.body.items texts.said.items texts.last.items) result
         (D.view desk.old) (D.view desk.new) }
 {
@@ -111,7 +112,8 @@ pub fn respond<D: Desk>(
     desk: &mut D,
 ) -> Result<(), RunError>
     requires { IfSome number (λ n. (MIN_FAULT ≤ n) × (n ≤ MAX_FAULT)) }
-    ensures { EndsJob (asked.respond netlist.now tests.now out.now number start.now) result
+    ensures { EndsJob (asked_by (job_of.Respond netlist.now tests.now out.now number start.now))
+        result
         (D.view desk.old) (D.view desk.new) }
 {
     let texts = make_texts(alloc, netlist.as_str(), tests.as_str(), number, start, desk)?;

@@ -5,7 +5,8 @@ ghost use Rattle.ht_ports.specs.declared.ports.OutPort.TheVariants as out_port;
 ghost use Rattle.ht_net.specs.Detect.Detection.{IsStart};
 ghost use Rattle.ht_faults.specs.Sites.{faults_of};
 ghost use Rattle.ht_faults.specs.Classes.{AreClasses};
-ghost use Rattle.ht_asked.specs.Asked as asked;
+ghost use Rattle.ht_words.specs.Jobs.{asked_by};
+ghost use Rattle.ht_words.specs.declared.job.Job.TheVariants as job_of;
 ghost use Rattle.ht_app.specs.Outputs.{IsReportOf, file_acts};
 ghost use Rattle.ht_app.specs.Simulated.{SayDetections};
 ghost use Rattle.ht_app.specs.Steps.{Prepares};
@@ -93,7 +94,8 @@ pub fn simulate<D: Desk>(
     start: &Option<FileName>,
     desk: &mut D,
 ) -> Result<Made, RunError>
-    ensures { (report : List ℕ) → Prepares (asked.sim netlist.now tests.now report start.now)
+    ensures { (report : List ℕ) → Prepares
+        (asked_by (job_of.Sim netlist.now tests.now report start.now))
         (λ made. file_acts out_port.Report report made.body.items made.total.items) result
         (D.view desk.old) (D.view desk.new) }
 {

@@ -2,7 +2,8 @@
 ghost use Rattle.std.specs.Prelude.{◌≡◌, ◌≤◌, ◌++◌, List, ℕ, IfOk};
 ghost use Rattle.ht_texts.specs.Tests.{test_text};
 ghost use Rattle.ht_sync.specs.SyncTexts.{sync_list};
-ghost use Rattle.ht_asked.specs.Asked as asked;
+ghost use Rattle.ht_words.specs.Jobs.{asked_by};
+ghost use Rattle.ht_words.specs.declared.job.Job.TheVariants as job_of;
 ghost use Rattle.ht_app.specs.Outputs.{IsSyncRecord, sync_acts};
 ghost use Rattle.ht_app.specs.Steps.{Does, EndsJob, Prepares};
 
@@ -71,7 +72,7 @@ fn make_texts<D: Desk>(
     desk: &mut D,
 ) -> Result<SyncTexts, RunError>
     requires { budget ≤ MAX_BUDGET }
-    ensures { (tests out : List ℕ) → Prepares (asked.sync netlist.now tests out budget)
+    ensures { (tests out : List ℕ) → Prepares (asked_by (job_of.Sync netlist.now tests out budget))
         (λ texts. sync_acts tests out texts.tests.items texts.body.items texts.said.items
         texts.last.items) result (D.view desk.old) (D.view desk.new) }
 {
@@ -112,7 +113,8 @@ pub fn synchronize<D: Desk>(
     desk: &mut D,
 ) -> Result<(), RunError>
     requires { budget ≤ MAX_BUDGET }
-    ensures { EndsJob (asked.sync netlist.now tests.now out.now budget) result (D.view desk.old)
+    ensures { EndsJob (asked_by (job_of.Sync netlist.now tests.now out.now budget)) result
+        (D.view desk.old)
         (D.view desk.new) }
 {
     let texts = make_texts(alloc, netlist.as_str(), budget, desk)?;

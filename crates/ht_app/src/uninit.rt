@@ -3,7 +3,8 @@ ghost use Rattle.std.specs.Prelude.{◌≡◌, ◌++◌, List, ℕ, IfOk};
 ghost use Rattle.ht_ports.specs.declared.ports.OutPort.TheVariants as out_port;
 ghost use Rattle.ht_faults.specs.Sites.{faults_of};
 ghost use Rattle.ht_faults.specs.Classes.{AreClasses};
-ghost use Rattle.ht_asked.specs.Asked as asked;
+ghost use Rattle.ht_words.specs.Jobs.{asked_by};
+ghost use Rattle.ht_words.specs.declared.job.Job.TheVariants as job_of;
 ghost use Rattle.ht_app.specs.Outputs.{IsUninitReport, file_acts};
 ghost use Rattle.ht_app.specs.Steps.{Prepares};
 
@@ -56,7 +57,7 @@ pub fn uninit<D: Desk>(
     budget: u64,
     desk: &mut D,
 ) -> Result<Made, RunError>
-    ensures { (out : List ℕ) → Prepares (asked.uninit netlist.now out budget)
+    ensures { (out : List ℕ) → Prepares (asked_by (job_of.Uninit netlist.now out budget))
         (λ made. file_acts out_port.Report out made.body.items made.total.items) result
         (D.view desk.old) (D.view desk.new) }
 {

@@ -3,8 +3,9 @@ use Rattle.std.proofs.Common.{◌≡◌, ◌∷◌, ◌++◌, ◌==◌, ℕ, tru
 use Rattle.std.specs.Prelude.{if◌then◌else◌}
 use Rattle.clap.specs.Walk.{Text}
 use Rattle.ht_asked.specs.Forms.{given, parts}
-use Rattle.ht_asked.specs.Asked.{Asked, GenOptions, asked, budget_of, check, compact, demo, diagnose}
-use Rattle.ht_asked.specs.Asked.{gen, gen_command, report, respond, sync, uninit}
+use Rattle.ht_asked.specs.Asked.{Asked, InNames, Kind, Numbers, OutNames, makes_nothing, reads_nothing, unsaid}
+use Rattle.ht_asked.specs.Asked.{check, compact, demo, diagnose, gen, report, respond, sync, uninit}
+use Rattle.ht_asked.specs.Commands.{asked, budget_of, command_of}
 use Rattle.ht_asked.specs.ByClap.{app_with, given_by_clap}
 use Rattle.ht_asked.proofs.States.{AreReadable}
 use Rattle.ht_asked.proofs.FormByClap.{form_by_clap}
@@ -27,21 +28,17 @@ asks line = asked (split line)
 abbrev gen_asks : Text → Option Asked
 gen_asks line = asks (codes "gen n t r p " ++ line)
 
--- what is said where each option is left out
-abbrev unsaid : GenOptions
-unsaid = record {
-  budget = 1000;
-  random = 0;
-  seed = 0;
-  start = None;
-  first = None;
-  faults = None;
-  weighted = 0;
-  deep = false;
-}
+-- a job of this command that reads and makes these files
+abbrev job_of : Kind → InNames → OutNames → Numbers → Option Asked
+job_of kind reads makes numbers =
+    Some (record { command = kind; reads = reads; makes = makes; numbers = numbers })
 
-abbrev told_by : GenOptions → Option Asked
-told_by options = Some (gen (codes "n") (codes "t") (codes "r") (codes "p") options)
+abbrev told_from : InNames → Numbers → Option Asked
+told_from reads numbers = job_of gen (record reads { netlist = Some (codes "n") })
+    (record { tests = Some (codes "t"); report = Some (codes "r"); proofs = Some (codes "p") }) numbers
+
+abbrev told_by : Numbers → Option Asked
+told_by = told_from reads_nothing
 
 abbrev told_with : ℕ → ℕ → ℕ → Option Asked
 told_with budget random seed = told_by (record unsaid { budget = budget; random = random; seed = seed })
@@ -84,7 +81,8 @@ further_options : map gen_asks (codes "--first f --faults=l --start=s" ∷ codes
     ∷ codes "--search=plain --weighted 100000" ∷ codes "--weighted 100001" ∷ codes "--search=Deep"
     ∷ codes "--search=" ∷ codes "--search" ∷ codes "--search=deep --search=deep" ∷ codes "--first=f --first=f"
     ∷ codes "--faults -l" ∷ [])
-    ≡ told_by (record unsaid { first = Some (codes "f"); faults = Some (codes "l"); start = Some (codes "s") })
+    ≡ told_from (record reads_nothing { tests = Some (codes "f"); faults = Some (codes "l"); extra = Some (codes "s") })
+    unsaid
     ∷ told_by (record unsaid { weighted = 7; deep = true }) ∷ told_by (record unsaid { weighted = 100000 })
     ∷ None ∷ None ∷ None ∷ None ∷ None ∷ None ∷ None ∷ []
 unfolding asked given parts
@@ -93,13 +91,20 @@ further_options = refl
 -- `demo` has a size and a seed
 demos : map asks (codes "demo 16 3" ∷ codes "demo 20000 0" ∷ codes "demo 20001 1" ∷ codes "demo 0 1"
     ∷ codes "demo 16 3 4" ∷ codes "demo 16 --seed=3" ∷ [])
-    ≡ Some (demo 16 3) ∷ Some (demo 20000 0) ∷ None ∷ None ∷ None ∷ None ∷ []
+    ≡ job_of demo reads_nothing makes_nothing (record unsaid { size = 16; seed = 3 })
+    ∷ job_of demo reads_nothing makes_nothing (record unsaid { size = 20000 }) ∷ None ∷ None ∷ None ∷ None ∷ []
 unfolding asked given parts
 demos = refl
 
 -- `check` has four names, and may have a start
 abbrev checked : Option Text → Option Asked
-checked start = Some (check (codes "n") (codes "t") (codes "r") (codes "p") start)
+checked start = job_of check (record reads_nothing {
+  netlist = Some (codes "n");
+  tests = Some (codes "t");
+  report = Some (codes "r");
+  proofs = Some (codes "p");
+  extra = start;
+}) makes_nothing unsaid
 
 checks : map asks (codes "check n t r p" ∷ codes "check n t r" ∷ codes "check n t r p --budget=5"
     ∷ codes "check n t r p --start s" ∷ codes "check --start=-s n t r p" ∷ codes "check n t r p --start -s"
@@ -108,58 +113,83 @@ checks : map asks (codes "check n t r p" ∷ codes "check n t r" ∷ codes "chec
 unfolding asked given parts
 checks = refl
 
+-- the netlist `n` is read, and these tests
+abbrev of_tests : Text → InNames
+of_tests tests = record reads_nothing { netlist = Some (codes "n"); tests = Some tests }
+
+-- this file is made at the port Report
+abbrev to_report : Text → OutNames
+to_report out = record makes_nothing { report = Some out }
+
+abbrev compacts : Text → Text → Option Asked
+compacts tests out = job_of compact (of_tests tests) (record makes_nothing { tests = Some out }) unsaid
+
 -- `compact` has three names, `diagnose` four, and neither has an option
 further : map asks (codes "compact n t o" ∷ codes "compact n -- -t -" ∷ codes "compact n t" ∷ codes "compact n t o p"
     ∷ codes "Compact n t o" ∷ codes "diagnose n t r o" ∷ codes "diagnose n t r" ∷ codes "diagnose n t r o --seed=3" ∷ [])
-    ≡ Some (compact (codes "n") (codes "t") (codes "o")) ∷ Some (compact (codes "n") (codes "-t") (codes "-"))
-    ∷ None ∷ None ∷ None ∷ Some (diagnose (codes "n") (codes "t") (codes "r") (codes "o")) ∷ None ∷ None ∷ []
+    ≡ compacts (codes "t") (codes "o") ∷ compacts (codes "-t") (codes "-") ∷ None ∷ None ∷ None
+    ∷ job_of diagnose (record (of_tests (codes "t")) { extra = Some (codes "r") }) (to_report (codes "o")) unsaid
+    ∷ None ∷ None ∷ []
 unfolding asked given parts
 further = refl
+
+abbrev of_netlist : Text → ℕ → Option Asked
+of_netlist out budget = job_of uninit (record reads_nothing { netlist = Some (codes "n") }) (to_report out)
+    (record unsaid { budget = budget })
 
 -- `uninit` has two names and a budget
 uninits : map asks (codes "uninit n o" ∷ codes "uninit n --budget 100000 o" ∷ codes "uninit --budget=007 n -- -o"
     ∷ codes "uninit n" ∷ codes "uninit n o p" ∷ codes "uninit n o --budget=0" ∷ codes "uninit n o --budget=100001"
     ∷ codes "uninit n o --random=3" ∷ [])
-    ≡ Some (uninit (codes "n") (codes "o") 1000) ∷ Some (uninit (codes "n") (codes "o") 100000)
-    ∷ Some (uninit (codes "n") (codes "-o") 7) ∷ None ∷ None ∷ None ∷ None ∷ None ∷ []
+    ≡ of_netlist (codes "o") 1000 ∷ of_netlist (codes "o") 100000 ∷ of_netlist (codes "-o") 7 ∷ None ∷ None ∷ None ∷ None ∷ None ∷ []
 unfolding asked given parts
 uninits = refl
+
+abbrev synchronizes : ℕ → Option Asked
+synchronizes budget = job_of sync (record reads_nothing { netlist = Some (codes "n") })
+    (record (to_report (codes "o")) { tests = Some (codes "t") }) (record unsaid { budget = budget })
 
 -- `sync` has three names and a budget
 syncs : map asks (codes "sync n t o" ∷ codes "sync n --budget 1 t o" ∷ codes "sync n t"
     ∷ codes "sync n t o --budget=0" ∷ [])
-    ≡ Some (sync (codes "n") (codes "t") (codes "o") 1000) ∷ Some (sync (codes "n") (codes "t") (codes "o") 1)
+    ≡ synchronizes 1000 ∷ synchronizes 1
     ∷ None ∷ None ∷ []
 unfolding asked given parts
 syncs = refl
+
+abbrev shows : Option ℕ → Option Text → Option Asked
+shows fault start = job_of respond (record (of_tests (codes "t")) { extra = start }) (to_report (codes "o"))
+    (record unsaid { fault = fault })
 
 -- `respond` has three names, and may have a fault and a start
 responds : map asks (codes "respond n t o" ∷ codes "respond n t o --fault 655358"
     ∷ codes "respond --fault=007 n --start s t o" ∷ codes "respond n t o --fault=0"
     ∷ codes "respond n t o --fault=655359" ∷ codes "respond n t" ∷ [])
-    ≡ Some (respond (codes "n") (codes "t") (codes "o") None None)
-    ∷ Some (respond (codes "n") (codes "t") (codes "o") (Some 655358) None)
-    ∷ Some (respond (codes "n") (codes "t") (codes "o") (Some 7) (Some (codes "s")))
+    ≡ shows None None ∷ shows (Some 655358) None ∷ shows (Some 7) (Some (codes "s"))
     ∷ None ∷ None ∷ None ∷ []
 unfolding asked given parts
 responds = refl
+
+abbrev reported : ℕ → Option Text → Option Asked
+reported budget start = job_of report
+    (record (of_tests (codes "t")) { proofs = Some (codes "p"); extra = start }) (to_report (codes "r"))
+    (record unsaid { budget = budget })
 
 -- `report` has four names, and may have a budget and a start
 reports : map asks (codes "report n t p r" ∷ codes "report --budget=007 n t p --start s r"
     ∷ codes "report n t p r --budget=0" ∷ codes "report n t p r --budget=100001"
     ∷ codes "report n t p r --search=deep" ∷ codes "report n t p" ∷ [])
-    ≡ Some (report (codes "n") (codes "t") (codes "p") (codes "r") 1000 None)
-    ∷ Some (report (codes "n") (codes "t") (codes "p") (codes "r") 7 (Some (codes "s")))
+    ≡ reported 1000 None ∷ reported 7 (Some (codes "s"))
     ∷ None ∷ None ∷ None ∷ None ∷ []
 unfolding asked given parts
 reports = refl
 
 -- `clap` reads the command's form as the plain reading does
 by_clap : (words : List Text) → AreReadable words
-    → given_by_clap (app_with gen_command.name gen_command.form) gen_command.form (codes "gen" ∷ words)
-    ≡ given gen_command.form words
+    → given_by_clap (app_with (command_of gen).name (command_of gen).form) (command_of gen).form (codes "gen" ∷ words)
+    ≡ given (command_of gen).form words
 by_clap words =
-    form_by_clap gen_command.name gen_command.form (record { differ = refl; few = omega arith }) (codes "gen") words
+    form_by_clap (command_of gen).name (command_of gen).form (record { differ = refl; few = omega arith }) (codes "gen") words
 
 -- from 1 to 100000, or 1000 where it is left out
 budgets : map budget_of (None ∷ Some (codes "7") ∷ Some (codes "007") ∷ Some (codes "100000") ∷ Some (codes "0") ∷ [])

@@ -1,6 +1,6 @@
 -- The numbers that words ask for are in their ranges.
 use Rattle.std.proofs.Common.{◌≡◌, ◌≤◌, ◌∷◌, ◌&&◌, ℕ, Bool, true, false, cond, List, [], Option, Some, None, refl, subst, arith}
-use Rattle.std.specs.Prelude.{IfSome, find, nat_le, option_and_then, option_map}
+use Rattle.std.specs.Prelude.{IfSome, find, map, nat_le, option_and_then, option_map}
 use Rattle.std.specs.Str.{bytes_eq}
 use Rattle.std.specs.Str.Parse.{digits_value}
 use Rattle.std.proofs.lemmas.Bool.{leb-true}
@@ -9,11 +9,10 @@ use Rattle.clap.proofs.WalkLemmas.{both}
 use Rattle.ht_asked.specs.declared.limits.TheConstants.{MAX_BUDGET, MAX_FAULT, MAX_RANDOM, MAX_SEED, MAX_SIZE, MIN_BUDGET, MIN_FAULT, MIN_SIZE}
 use Rattle.ht_asked.specs.Forms.{Given, given}
 use Rattle.ht_asked.specs.Numbers.{is_number, number_in, number_or}
-use Rattle.ht_asked.specs.Asked.{Asked, Command, GenOptions, asked, check_of, commands, demo_of, demo_with, gen, gen_of, norm, of_four, of_three, of_two, options_with, sim_of}
-use Rattle.ht_asked.specs.Asked.{compact, deep_of, diagnose, report, report_of, respond, respond_of, sync, sync_of}
-use Rattle.ht_asked.specs.Asked.{uninit, uninit_of}
-use Rattle.ht_asked.specs.Asked.{budget_of, random_of, seed_in, seed_of, size_in}
-use Rattle.ht_asked.specs.Ranges.{AreOptions, IsInRange}
+use Rattle.ht_asked.specs.Asked.{Asked, InNames, Kind, Numbers, OutNames}
+use Rattle.ht_asked.specs.Commands.{Command, Sorted, asked, budget_of, command_of, command_row, deep_of, demo_size, fault_of}
+use Rattle.ht_asked.specs.Commands.{job_said, kinds, numbers_with, random_of, seed_of, sorted_by}
+use Rattle.ht_asked.specs.Ranges.{IsInRange}
 
 -- ---- numbers
 
@@ -39,125 +38,72 @@ pub option_is_in_range : (default least most : ℕ) → InRange least most defau
 option_is_in_range default least most within None = within
 option_is_in_range default least most within (Some text) = number_is_in_range least most text
 
--- ---- commands
+-- ---- the numbers of a job
+
+abbrev FaultInRange : Option ℕ → Type 0
+FaultInRange fault = IfSome fault (InRange MIN_FAULT MAX_FAULT)
+
+fault_in_range : (text : Option Text) → IfSome (fault_of text) FaultInRange
+fault_in_range None = tt
+fault_in_range (Some text) = go (number_in MIN_FAULT MAX_FAULT text) (number_is_in_range MIN_FAULT MAX_FAULT text)
+  where
+    go : (n : Option ℕ) → FaultInRange n → IfSome (option_map Some n) FaultInRange
+    go None within = tt
+    go (Some n) within = within
 
 abbrev AsksInRange : Option Asked → Type 0
 AsksInRange asks = IfSome asks IsInRange
 
-by_two : (job : Text → Text → Asked) → ((a b : Text) → IsInRange (job a b)) → (names : List Text)
-    → AsksInRange (of_two job names)
-by_two job so (a ∷ b ∷ []) = so a b
-by_two job so _ = tt
-
-by_three : (job : Text → Text → Text → Asked) → ((a b c : Text) → IsInRange (job a b c)) → (names : List Text)
-    → AsksInRange (of_three job names)
-by_three job so (a ∷ b ∷ c ∷ []) = so a b c
-by_three job so _ = tt
-
-by_four : (job : Text → Text → Text → Text → Asked) → ((a b c d : Text) → IsInRange (job a b c d))
-    → (names : List Text) → AsksInRange (of_four job names)
-by_four job so (a ∷ b ∷ c ∷ d ∷ []) = so a b c d
-by_four job so _ = tt
-
-by_options : (names : GenOptions → Asked) → ((o : GenOptions) → AreOptions o → IsInRange (names o))
-    → (budget random seed weighted : Option ℕ) (deep : Option Bool) (start first faults : Option Text)
+by_numbers : (kind : Kind) (reads : InNames) (makes : OutNames) (budget random weighted seed : Option ℕ)
+    (deep : Option Bool) (fault : Option (Option ℕ)) (size : Option ℕ)
     → IfSome budget (InRange MIN_BUDGET MAX_BUDGET) → IfSome random (InRange 0 MAX_RANDOM)
-    → IfSome seed (InRange 0 MAX_SEED) → IfSome weighted (InRange 0 MAX_RANDOM)
-    → AsksInRange (option_map names (options_with budget random seed start first faults weighted deep))
-by_options names so (Some budget) (Some random) (Some seed) (Some weighted) (Some deep) start first faults b r s w =
-    so _ (record { budget = b; random = r.1; seed = s.1; weighted = w.1 })
-by_options names so _ _ _ _ _ _ _ _ _ _ _ _ = tt
+    → IfSome weighted (InRange 0 MAX_RANDOM) → IfSome seed (InRange 0 MAX_SEED) → IfSome fault FaultInRange
+    → IfSome size (InRange MIN_SIZE MAX_SIZE)
+    → AsksInRange (option_map
+    (λ (n : Numbers). record { command = kind; reads = reads; makes = makes; numbers = n })
+    (numbers_with budget random weighted seed deep fault size))
+by_numbers kind reads makes (Some b) (Some r) (Some w) (Some s) (Some d) (Some f) (Some z) bs rs ws ss fs zs =
+    record { budget = bs; random = rs.1; weighted = ws.1; seed = ss.1; fault = fs; size = zs }
+by_numbers kind reads makes _ _ _ _ _ _ _ bs rs ws ss fs zs = tt
 
-by_gen : (names : List Text) (texts : List (Option Text)) → AsksInRange (gen_of names texts)
-by_gen (a ∷ b ∷ c ∷ d ∷ []) (t ∷ u ∷ v ∷ w ∷ f ∷ l ∷ n ∷ k ∷ []) =
-    by_options (gen a b c d) (λ o so. so) (budget_of t) (random_of u) (seed_of v) (random_of n) (deep_of k) w f l
-    (option_is_in_range 1000 MIN_BUDGET MAX_BUDGET (omega arith, omega arith) t)
-    (option_is_in_range 0 0 MAX_RANDOM (omega arith, omega arith) u)
-    (option_is_in_range 0 0 MAX_SEED (omega arith, omega arith) v)
-    (option_is_in_range 0 0 MAX_RANDOM (omega arith, omega arith) n)
-by_gen _ _ = tt
-
-by_sim : (names : List Text) (texts : List (Option Text)) → AsksInRange (sim_of names texts)
-by_sim (a ∷ b ∷ c ∷ []) (t ∷ []) = tt
-by_sim _ _ = tt
-
-by_check : (names : List Text) (texts : List (Option Text)) → AsksInRange (check_of names texts)
-by_check (a ∷ b ∷ c ∷ d ∷ []) (t ∷ []) = tt
-by_check _ _ = tt
-
-by_numbers : (size seed : Option ℕ) → IfSome size (InRange MIN_SIZE MAX_SIZE) → IfSome seed (InRange 0 MAX_SEED)
-    → AsksInRange (demo_with size seed)
-by_numbers (Some size) (Some seed) a b = (a.0, a.1, b.1)
-by_numbers _ _ _ _ = tt
-
-by_demo : (texts : List Text) → AsksInRange (demo_of texts)
-by_demo (a ∷ b ∷ []) = by_numbers (size_in a) (seed_in b) (number_is_in_range MIN_SIZE MAX_SIZE a)
-    (number_is_in_range 0 MAX_SEED b)
-by_demo _ = tt
-
--- a job with a budget alone
-by_budget : (job : ℕ → Asked) → ((n : ℕ) → InRange MIN_BUDGET MAX_BUDGET n → IsInRange (job n)) → (t : Option Text)
-    → AsksInRange (option_map job (budget_of t))
-by_budget job so t = by (budget_of t) (option_is_in_range 1000 MIN_BUDGET MAX_BUDGET (omega arith, omega arith) t)
-  where
-    by : (budget : Option ℕ) → IfSome budget (InRange MIN_BUDGET MAX_BUDGET) → AsksInRange (option_map job budget)
-    by None b = tt
-    by (Some budget) b = so budget b
-
-by_uninit : (names : List Text) (texts : List (Option Text)) → AsksInRange (uninit_of names texts)
-by_uninit (a ∷ b ∷ []) (t ∷ []) = by_budget (uninit a b) (λ n h. h) t
-by_uninit _ _ = tt
-
-by_sync : (names : List Text) (texts : List (Option Text)) → AsksInRange (sync_of names texts)
-by_sync (a ∷ b ∷ c ∷ []) (t ∷ []) = by_budget (sync a b c) (λ n h. h) t
-by_sync _ _ = tt
-
-by_fault : (netlist tests out : Text) (start : Option Text) (fault : Option ℕ)
-    → IfSome fault (InRange MIN_FAULT MAX_FAULT)
-    → AsksInRange (option_map (λ number. respond netlist tests out number start) (option_map Some fault))
-by_fault netlist tests out start None within = tt
-by_fault netlist tests out start (Some number) within = within
-
-by_respond : (names : List Text) (texts : List (Option Text)) → AsksInRange (respond_of names texts)
-by_respond (a ∷ b ∷ c ∷ []) (None ∷ u ∷ []) = tt
-by_respond (a ∷ b ∷ c ∷ []) (Some text ∷ u ∷ []) =
-    by_fault a b c u (number_in MIN_FAULT MAX_FAULT text) (number_is_in_range MIN_FAULT MAX_FAULT text)
-by_respond _ _ = tt
-
-by_report : (names : List Text) (texts : List (Option Text)) → AsksInRange (report_of names texts)
-by_report (a ∷ b ∷ c ∷ d ∷ []) (t ∷ u ∷ []) = by_budget (λ n. report a b c d n u) (λ n h. h) t
-by_report _ _ = tt
+said_in_range : (kind : Kind) (texts : Sorted) → AsksInRange (job_said kind texts)
+said_in_range kind texts = by_numbers kind texts.reads texts.makes (budget_of texts.numbers.budget)
+    (random_of texts.numbers.random) (random_of texts.numbers.weighted) (seed_of texts.numbers.seed)
+    (deep_of texts.numbers.depth) (fault_of texts.numbers.fault) (demo_size texts.numbers.size)
+    (option_is_in_range 1000 MIN_BUDGET MAX_BUDGET (omega arith, omega arith) texts.numbers.budget)
+    (option_is_in_range 0 0 MAX_RANDOM (omega arith, omega arith) texts.numbers.random)
+    (option_is_in_range 0 0 MAX_RANDOM (omega arith, omega arith) texts.numbers.weighted)
+    (option_is_in_range 0 0 MAX_SEED (omega arith, omega arith) texts.numbers.seed)
+    (fault_in_range texts.numbers.fault)
+    (option_is_in_range 1 MIN_SIZE MAX_SIZE (omega arith, omega arith) texts.numbers.size)
 
 -- ---- the table of the commands
 
-abbrev All : List Command → Type 0
-All [] = Unit {0}
-All (c ∷ cs) = ((g : Given) → AsksInRange (c.asks g)) × All cs
+by_sorted : (kind : Kind) (texts : Option Sorted) → AsksInRange (option_and_then (job_said kind) texts)
+by_sorted kind None = tt
+by_sorted kind (Some texts) = said_in_range kind texts
 
-commands_ask_in_range : All commands
-commands_ask_in_range = (λ g. by_sim g.positionals g.options, (λ g. by_gen g.positionals g.options, (λ g. by_check g.positionals g.options, (λ g. by_two norm (λ a b. tt) g.positionals, (λ g. by_demo g.positionals, (λ g. by_three compact (λ a b c. tt) g.positionals, (λ g. by_four diagnose (λ a b c d. tt) g.positionals, (λ g. by_uninit g.positionals g.options, (λ g. by_sync g.positionals g.options, (λ g. by_respond g.positionals g.options, (λ g. by_report g.positionals g.options, tt)))))))))))
+by_given : (kind : Kind) (o : Option Given) → AsksInRange (option_and_then (command_of kind).asks o)
+by_given kind None = tt
+by_given kind (Some g) = by_sorted kind (sorted_by (command_row kind) g.positionals g.options)
 
-by_given : (c : Command) → ((g : Given) → AsksInRange (c.asks g)) → (o : Option Given)
-    → AsksInRange (option_and_then c.asks o)
-by_given c so None = tt
-by_given c so (Some g) = so g
-
-by_found : (test : Command → Bool) (words : List Text) (cs : List Command) → All cs
-    → AsksInRange (option_and_then (λ (c : Command). option_and_then c.asks (given c.form words)) (find test cs))
-by_found test words [] so = tt
-by_found test words (c ∷ cs) so = go (test c) (by_found test words cs so.1)
+by_found : (test : Command → Bool) (words : List Text) (ks : List Kind) → AsksInRange
+    (option_and_then (λ (c : Command). option_and_then c.asks (given c.form words)) (find test (map command_of ks)))
+by_found test words [] = tt
+by_found test words (k ∷ ks) = go (test (command_of k)) (by_found test words ks)
   where
-    go : (b : Bool)
-        → AsksInRange (option_and_then (λ (d : Command). option_and_then d.asks (given d.form words)) (find test cs))
-        → AsksInRange (option_and_then (λ (d : Command). option_and_then d.asks (given d.form words))
-        (cond b (Some c) (find test cs)))
-    go true rest = by_given c so.0 (given c.form words)
+    asks : Command → Option Asked
+    asks c = option_and_then c.asks (given c.form words)
+
+    go : (b : Bool) → AsksInRange (option_and_then asks (find test (map command_of ks)))
+        → AsksInRange (option_and_then asks (cond b (Some (command_of k)) (find test (map command_of ks))))
+    go true rest = by_given k (given (command_of k).form words)
     go false rest = rest
 
 asked_in_range : (words : List Text) → AsksInRange (asked words)
 unfolding asked
 asked_in_range [] = tt
-asked_in_range (name ∷ words) = by_found (λ c. bytes_eq name c.name) words commands commands_ask_in_range
+asked_in_range (name ∷ words) = by_found (λ c. bytes_eq name c.name) words kinds
 
 -- the numbers of the command that words ask for are in their ranges
 pub numbers_are_in_range : (words : List Text) (job : Asked) → asked words ≡ Some job → IsInRange job

@@ -7,7 +7,7 @@ use Rattle.std.proofs.lemmas.Str.{IsCharBoundary-after_ascii, IsUtf8-drop, IsUtf
 use Rattle.std.proofs.lemmas.Bool.Decides.{Decides-eqb}
 use Rattle.clap.specs.Lexer.{short_of_rest}
 use Rattle.clap.specs.Walk.{Text}
-use Rattle.ht_asked.specs.Asked.{words_of}
+use Rattle.ht_asked.specs.Commands.{words_of}
 use Rattle.ht_asked.proofs.States.{AreReadable, IsReadable}
 
 first_char : (y : ℕ) (ys : Text) → IsUtf8 (y ∷ ys) → (z : ℕ) × (slice_get (chars (y ∷ ys)) 0 ≡ Some z)

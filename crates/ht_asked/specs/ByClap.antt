@@ -5,7 +5,8 @@ use Rattle.clap.specs.Walk.{Row, Rule, Text, first_of, is_empty}
 use Rattle.clap.specs.Simple.{App, matches_of, new_app, new_rule, on_top}
 use Rattle.clap.specs.Faults.{fault_of}
 use Rattle.ht_asked.specs.Forms.{Form, Given}
-use Rattle.ht_asked.specs.Asked.{Asked, Command, asked_in}
+use Rattle.ht_asked.specs.Asked.{Asked}
+use Rattle.ht_asked.specs.Commands.{Command, asked_in}
 
 -- a command that takes no request for help or for a version
 abbrev pub app_named : Text → App

@@ -1,5 +1,7 @@
 pub mod Forms
 pub mod Numbers
 pub mod Asked
+pub mod Commands
+pub mod Usage
 pub mod Ranges
 pub mod ByClap

@@ -1,5 +1,5 @@
 -- The names that most proofs of this crate use.
-pub use Rattle.ht_asked.specs.Asked.{Asked, GenOptions, check, compact, diagnose, gen, respond, sim}
+pub use Rattle.ht_asked.specs.Asked.{Asked}
 pub use Rattle.ht_bench.proofs.OneLaws.{one_circuit}
 pub use Rattle.ht_bench.specs.Text.{IsNetlistOf, max_netlist_bytes}
 pub use Rattle.ht_faults.specs.Classes.{AreClasses}

@@ -1,472 +1,657 @@
 -- Texts that a job refuses say no basis, and are refused with one status.
-use Rattle.std.proofs.Common.{◌≡◌, ◌⊎◌, inl, inr, ℕ, ◌+◌, ◌<◌, Bool, List, [], length, refl, sym, ◌∙◌, subst, arith}
-use Rattle.std.specs.Prelude.{Some, Option, None}
-use Rattle.ht_asked.specs.Asked as asked
-use Rattle.ht_inputs.proofs.Common.{AreClasses, Asked, BadResponses, BadTests, Denied, Extra, InPort, IsGoodNetlist}
-use Rattle.ht_inputs.proofs.Common.{IsMalformedResponse, IsRefusedFor, JobBasis, RunError, SaysBasis, Tern}
-use Rattle.ht_inputs.proofs.Common.{TooManyVectors, Trouble, before_proofs, check, compact, diagnose, exit_status, gen}
-use Rattle.ht_inputs.proofs.Common.{input_name, one_circuit, order_of, refused_port, respond, sim, unknown_state}
+use Rattle.std.proofs.Common.{◌≡◌, ◌≢◌, ◌⊎◌, inl, inr, ℕ, ◌+◌, ◌<◌, ◌≤◌, Bool, true, false, List, length, refl, sym, ◌∙◌, ap, subst, arith}
+use Rattle.std.specs.Prelude.{IsSome, Some, Option, None, if◌then◌else◌}
+use Rattle.std.proofs.lemmas.Bool.{cases_lt}
+use Rattle.ht_inputs.proofs.Common.{AreClasses, Asked, BadResponses, BadTests, Denied, Extra, InPort}
+use Rattle.ht_inputs.proofs.Common.{IsGoodNetlist, IsMalformedTest, IsRefusedFor, IsTestText, JobBasis}
+use Rattle.ht_inputs.proofs.Common.{RunError, SaysBasis, Tern, TooManyVectors, Trouble, before_proofs}
+use Rattle.ht_inputs.proofs.Common.{exit_status, input_name, one_circuit, order_of, refused_port, unknown_state}
 use Rattle.ht_ports.specs.declared.ports.InPort.TheVariants.{Netlist, Tests, Report, Proofs, Faults}
 use Rattle.ht_net.specs.Circuit.Netlist as net
 use Rattle.ht_faults.specs.Sites.{faults_of}
-use Rattle.ht_texts.specs.Tests.{IsMalformedTest, IsTestText}
 use Rattle.ht_texts.specs.StartTexts.{IsMalformedStart, IsStartText}
 use Rattle.ht_texts.proofs.FaultListLaws.{fault_list_or_malformed}
 use Rattle.ht_texts.proofs.ReaderLaws.{lines_few}
 use Rattle.ht_texts.proofs.StartLaws.{start_or_malformed}
 use Rattle.ht_texts.proofs.TestLaws.{never_both, one_list}
 use Rattle.ht_faults.proofs.ClassLaws.{one_list as one_classes}
+use Rattle.ht_asked.specs.Asked.{Kind, compact}
+use Rattle.ht_compact.specs.TestsToCompact.{HasTooManyVectors, IsMalformedEarly}
 use Rattle.ht_compact.proofs.FirstVectorLaws.{few_or_many, malformed_or_many}
 use Rattle.ht_dictionary.proofs.ResponseLaws.{never_both as never_responses}
+use Rattle.ht_dictionary.specs.ResponseTexts.{IsMalformedResponse}
 use Rattle.ht_valid.specs.FirstTrouble.{AreReadTo, IsFirstTrouble, IsFirstUnjustified}
-use Rattle.ht_valid.specs.ValidFiles.{AreValidFiles}
 use Rattle.ht_valid.specs.declared.trouble.Trouble.TheVariants as trouble
 use Rattle.ht_valid.proofs.TroubleLaws.{justified_has_no_trouble, valid_has_no_trouble}
+use Rattle.ht_words.specs.Jobs.{asked_by}
+use Rattle.ht_words.specs.declared.job.Job.{Job}
+use Rattle.ht_words.specs.declared.job.Job.TheVariants as job
+use Rattle.ht_words.specs.declared.job.RunFiles.{RunFiles}
+use Rattle.ht_inputs.proofs.ReadingLaws.{order_differs, same_or_other}
 use Rattle.ht_inputs.specs.declared.run_error.RunError.TheVariants.{TooLong, Refused, BadFaults, BadStart}
-use Rattle.ht_inputs.specs.Refusals.{AreRefusedWith, AreTestsOf, HasCircuit, IsStartOf, JustifyReport}
-use Rattle.ht_inputs.specs.Inputs.{HasFault, IsStated}
+use Rattle.ht_inputs.specs.Refusals.{AreDenied, AreRefusedWith, AreValidFor, HasCircuit, IsRefusedText, IsStartOf}
+use Rattle.ht_inputs.specs.Refusals.{IsWrongTest, JustifyReport, trouble_port}
+use Rattle.ht_inputs.specs.Inputs.{HasFault, IsStated, SaysCircuit, SaysExtra, SaysVectors}
+use Rattle.ht_inputs.specs.Jobs.{judges, may_state_start, place_of, start_name, takes_few}
 
 -- the texts of the job's files before this place say the basis
 abbrev pub SayTo : Asked → JobBasis → ℕ → (InPort → List ℕ) → Type 0
 SayTo job basis place texts = (p : InPort) (name : List ℕ) → order_of job p < place
     → input_name job p ≡ Some name → SaysBasis job basis p (texts p)
 
-says_netlist : (job : Asked) (basis : JobBasis) (text : List ℕ) → SaysBasis job basis Netlist text
-    → IsGoodNetlist text basis.circuit
-says_netlist (check netlist tests report proofs start) basis text says = says.0
-says_netlist (asked.report netlist tests proofs out budget start) basis text says = says.0
-says_netlist job basis text says = says
+-- a text that has a first trouble of its own: not the netlist, nor files that are judged
+abbrev IsText : InPort → Type 0
+IsText Extra = Unit {0}
+IsText Tests = Unit {0}
+IsText Faults = Unit {0}
+IsText port = ⊥
 
--- what holds of the circuit of a netlist holds of any
-has_circuit : (texts : InPort → List ℕ) (IsSo : net.Netlist → Type 0) (c : net.Netlist) → HasCircuit texts IsSo
-    → IsGoodNetlist (texts Netlist) c → IsSo c
-has_circuit texts IsSo c has good = subst IsSo (one_circuit (texts Netlist) has.0 c has.1.stands good.stands) has.2
+-- ---- the netlist and the tests
+
+pub good_netlist : (judged : Bool) (basis : JobBasis) (text : List ℕ) → SaysCircuit judged basis text
+    → IsGoodNetlist text basis.circuit
+good_netlist true basis text says = says.0
+good_netlist false basis text says = says
+
+vectors_said : (few : Bool) (basis : JobBasis) (text : List ℕ) → SaysVectors few basis text
+    → IsTestText basis.circuit text basis.content.list
+vectors_said true basis text says = says.vectors
+vectors_said false basis text says = says
+
+-- the netlist is read first
+pub netlist_first : (starts : Bool) (port : InPort) → IsText port → place_of Netlist starts < place_of port starts
+netlist_first true Extra is = omega arith
+netlist_first false Extra is = omega arith
+netlist_first true Tests is = omega arith
+netlist_first false Tests is = omega arith
+netlist_first starts Faults is = omega arith
+netlist_first starts Netlist is = absurd is
+netlist_first starts Report is = absurd is
+netlist_first starts Proofs is = absurd is
+
+-- `demo` reads no file
+pub demo_reads_none : (size seed : ℕ) (port : InPort) → input_name (asked_by (job.Demo size seed)) port ≡ None
+demo_reads_none size seed Netlist = refl
+demo_reads_none size seed port = refl
+
+some_name : (file : Option (List ℕ)) → IsSome file → (name : List ℕ) × (file ≡ Some name)
+some_name (Some name) is = (name, refl)
+some_name None is = cc
+
+reads_netlist : (j : Job) (port : InPort) (name : List ℕ) → input_name (asked_by j) port ≡ Some name
+    → IsSome (input_name (asked_by j) Netlist)
+reads_netlist (job.Demo size seed) port name is =
+    let none : None ≡ Some name = sym (demo_reads_none size seed port) ∙ is in cc
+reads_netlist j port name is = refl
+
+-- a job that reads any file reads a netlist
+pub netlist_named : (j : Job) (port : InPort) (name : List ℕ) → input_name (asked_by j) port ≡ Some name
+    → (n : List ℕ) × (input_name (asked_by j) Netlist ≡ Some n)
+netlist_named j port name is = some_name (input_name (asked_by j) Netlist) (reads_netlist j port name is)
+
+-- a job that reads responses reads tests
+tests_named : (j : Job) (name : List ℕ) → may_state_start (asked_by j) ≡ false
+    → input_name (asked_by j) Extra ≡ Some name → (n : List ℕ) × (input_name (asked_by j) Tests ≡ Some n)
+tests_named (job.Diagnose netlist tests responses out) name may is = (tests, refl)
+tests_named j name may is = cc
+
+says_netlist : (j : Job) (basis : JobBasis) (texts : InPort → List ℕ) (place : ℕ) (port : InPort) (name : List ℕ)
+    → input_name (asked_by j) port ≡ Some name → 0 < place → SayTo (asked_by j) basis place texts
+    → IsGoodNetlist (texts Netlist) basis.circuit
+says_netlist j basis texts place port name is some says =
+    let (n, named) = netlist_named j port name is in
+    good_netlist (judges (asked_by j).command) basis (texts Netlist) (says Netlist n some named)
+
+-- ---- an error and its port
+
+at_port : (b : Bool) (p q : InPort) → (if b then Some p else None) ≡ Some q → (b ≡ true) × (Some p ≡ Some q)
+at_port true p q is = (refl, is)
+at_port false p q is = cc
+
+at_other : (b : Bool) (p q : InPort) → (if b then None else Some p) ≡ Some q → (b ≡ false) × (Some p ≡ Some q)
+at_other true p q is = cc
+at_other false p q is = (refl, is)
+
+-- the port whose text the error refuses, whatever the job
+abbrev error_port : RunError → Option InPort
+error_port TooLong = Some Netlist
+error_port (Refused error) = Some Netlist
+error_port (BadStart line) = Some Extra
+error_port (BadTests line) = Some Tests
+error_port TooManyVectors = Some Tests
+error_port (BadResponses line) = Some Extra
+error_port (BadFaults line) = Some Faults
+error_port (Denied found) = Some (trouble_port found)
+error_port error = None
+
+pub port_is : (a : Asked) (e : RunError) (port : InPort) → refused_port a e ≡ Some port → error_port e ≡ Some port
+port_is a (BadStart line) port at = (at_port (may_state_start a) Extra port at).1
+port_is a (BadTests line) port at = (at_other (judges a.command) Tests port at).1
+port_is a TooManyVectors port at = (at_port (takes_few a.command) Tests port at).1
+port_is a (BadResponses line) port at = (at_other (may_state_start a) Extra port at).1
+port_is a (Denied found) port at = (at_port (judges a.command) (trouble_port found) port at).1
+port_is a e port at = at
+
+-- of the texts that have troubles of their own only the tests are judged with the others
+trouble_at : (found : Trouble) (port : InPort) → IsText port → Some (trouble_port found) ≡ Some port → port ≡ Tests
+trouble_at (trouble.Tests line) port is at = cc
+trouble_at (trouble.Report line) port is at =
+    let same : port ≡ Report = cc in absurd (subst IsText same is)
+trouble_at found port is at = let same : port ≡ Proofs = cc in absurd (subst IsText same is)
+
+-- what takes few vectors judges no proofs
+few_judge_none : (kind : Kind) → takes_few kind ≡ true → judges kind ≡ true → ⊥
+few_judge_none compact few judged = cc
+few_judge_none kind few judged = cc
+
+-- ---- a text that is refused doesn't say a basis
+
+module _ (text : List ℕ) (c : net.Netlist) (basis : JobBasis) (same : c ≡ basis.circuit) where
+  no_start : (starts : Bool) → starts ≡ true → (line : ℕ) → IsMalformedStart (length c.dffs) text line
+      → ¬ SaysExtra starts basis text
+  no_start true may line wrong says =
+      (start_or_malformed (length c.dffs) text).never_both basis.content.start line
+      (subst (λ (n : net.Netlist). IsStartText (length n.dffs) text basis.content.start) (sym same) says) wrong
+  no_start false may line wrong says = cc
+
+  no_tests : (few : Bool) (line : ℕ) → IsMalformedTest c text line → ¬ SaysVectors few basis text
+  no_tests few line wrong says = never_both basis.circuit text basis.content.list line
+      (vectors_said few basis text says) (subst (λ (n : net.Netlist). IsMalformedTest n text line) same wrong)
+
+  no_vectors : (few : Bool) (line : ℕ) → IsWrongTest few c text line → ¬ SaysVectors few basis text
+  no_vectors true line wrong says = no_tests true line wrong.malformed says
+  no_vectors false line wrong says = no_tests false line wrong says
+
+  no_few : (few : Bool) → few ≡ true → HasTooManyVectors c text → ¬ SaysVectors few basis text
+  no_few true is many says = few_or_many basis.circuit text basis.content.list says
+      (subst (λ (n : net.Netlist). HasTooManyVectors n text) same many)
+  no_few false is many says = cc
+
+  no_rows : (starts : Bool) → starts ≡ false → (list : List (List Bool)) → list ≡ basis.content.list → (line : ℕ)
+      → IsMalformedResponse (length c.outputs) (length list) text line → ¬ SaysExtra starts basis text
+  no_rows false may list lists line wrong says =
+      never_responses (length basis.circuit.outputs) (length basis.content.list) text basis.rows line says
+      (subst (λ (l : List (List Bool)). IsMalformedResponse (length basis.circuit.outputs) (length l) text line) lists
+      (subst (λ (n : net.Netlist). IsMalformedResponse (length n.outputs) (length list) text line) same wrong))
+  no_rows true may list lists line wrong says = cc
+
+-- a text that is refused by one basis doesn't say another of the same circuit and, if it is responses, of the same
+-- vectors
+never : (a : Asked) (text : List ℕ) (b basis : JobBasis) (port : InPort) (e : RunError) → IsText port
+    → refused_port a e ≡ Some port → b.circuit ≡ basis.circuit → net.IsCircuit basis.circuit
+    → (may_state_start a ≡ false → port ≡ Extra → b.content.list ≡ basis.content.list) → IsRefusedFor a b e text
+    → ¬ SaysBasis a basis port text
+never a text b basis Extra (BadStart line) is at same good lists wrong says =
+    no_start text b.circuit basis same (may_state_start a)
+    (at_port (may_state_start a) Extra Extra at).0 line wrong says
+never a text b basis Extra (BadResponses line) is at same good lists wrong says =
+    let may = (at_other (may_state_start a) Extra Extra at).0 in
+    no_rows text b.circuit basis same (may_state_start a) may b.content.list (lists may refl) line wrong says
+never a text b basis Tests (BadTests line) is at same good lists wrong says =
+    no_vectors text b.circuit basis same (takes_few a.command) line wrong says
+never a text b basis Tests TooManyVectors is at same good lists wrong says =
+    no_few text b.circuit basis same (takes_few a.command) (at_port (takes_few a.command) Tests Tests at).0 wrong says
+never a text b basis Tests (Denied (trouble.Tests line)) is at same good lists wrong says =
+    no_tests text b.circuit basis same (takes_few a.command) line wrong says
+never a text b basis Faults (BadFaults line) is at same good lists wrong says =
+    let few = lines_few basis.circuit good in
+    (fault_list_or_malformed (length (faults_of basis.circuit)) text (omega (arith, few))).never_both basis.chosen line
+    says (subst (λ (n : net.Netlist). IsRefusedFor a (record b { circuit = n }) (BadFaults line) text) same wrong)
+never a text b basis Netlist e is at same good lists wrong says = absurd is
+never a text b basis Report e is at same good lists wrong says = absurd is
+never a text b basis Proofs e is at same good lists wrong says = absurd is
+never a text b basis Extra (Denied found) is at same good lists wrong says =
+    let other = trouble_at found Extra tt (port_is a (Denied found) Extra at) in cc
+never a text b basis Faults (Denied found) is at same good lists wrong says =
+    let other = trouble_at found Faults tt (port_is a (Denied found) Faults at) in cc
+never a text b basis Extra e is at same good lists wrong says = let other = port_is a e Extra at in cc
+never a text b basis Tests e is at same good lists wrong says = let other = port_is a e Tests at in cc
+never a text b basis Faults e is at same good lists wrong says = let other = port_is a e Faults at in cc
+
+-- ---- refused texts among those that say a basis
+
+-- tests are read before responses
+tests_before : (starts : Bool) → starts ≡ false → (0 < place_of Tests starts) ×
+    (place_of Tests starts < place_of Extra starts)
+tests_before true may = cc
+tests_before false may = (omega arith, omega arith)
+
+module _ (j : Job) (texts : InPort → List ℕ) {port : InPort} {status : ℕ} {name : List ℕ} (is : IsText port)
+    (reads : input_name (asked_by j) port ≡ Some name) (r : IsRefusedText (asked_by j) texts port status) where
+  -- if the other texts say a basis, the refused one doesn't
+  refused_says : (basis : JobBasis) → IsGoodNetlist (texts Netlist) basis.circuit
+      → ((p : InPort) (n : List ℕ) → 0 < order_of (asked_by j) p → order_of (asked_by j) p < order_of (asked_by j) port
+      → input_name (asked_by j) p ≡ Some n → SaysBasis (asked_by j) basis p (texts p))
+      → ¬ SaysBasis (asked_by j) basis port (texts port)
+  refused_says basis good others says =
+      let same = one_circuit (texts Netlist) r.basis.circuit basis.circuit r.circuit.stands good.stands in
+      never (asked_by j) (texts port) r.basis basis port r.error is r.at same good.stands.is_circuit lists r.refused
+      says
+    where
+      lists : may_state_start (asked_by j) ≡ false → port ≡ Extra → r.basis.content.list ≡ basis.content.list
+      lists may at =
+          let (n, named) = tests_named j name may (ap (input_name (asked_by j)) (sym at) ∙ reads) in
+          let place = tests_before (may_state_start (asked_by j)) may in
+          let before : order_of (asked_by j) Tests < order_of (asked_by j) port =
+          omega (arith, place.1, ap (order_of (asked_by j)) at) in
+          let same = one_circuit (texts Netlist) r.basis.circuit basis.circuit r.circuit.stands good.stands in
+          let few = takes_few (asked_by j).command in
+          one_list basis.circuit (texts Tests) r.basis.content.list basis.content.list
+          (subst (λ (c : net.Netlist). IsTestText c (texts Tests) r.basis.content.list) same
+          (vectors_said few r.basis (texts Tests) (r.before Tests n place.0 before named)))
+          (vectors_said few basis (texts Tests) (others Tests n place.0 before named))
+
+-- ---- files that are denied
+
+module _ (texts : InPort → List ℕ) (basis : JobBasis) where
+  -- the start of the basis is that of the texts
+  pub start_of : (name : Option (List ℕ)) → (name ≡ None → basis.content.start ≡ unknown_state basis.circuit)
+      → ((n : List ℕ) → name ≡ Some n → IsStartText (length basis.circuit.dffs) (texts Extra) basis.content.start)
+      → IsStartOf name basis.circuit texts basis.content.start
+  start_of (Some n) stated says = says n refl
+  start_of None stated says = stated refl
+
+  -- and no other is
+  one_start : (name : Option (List ℕ)) (start : List Tern) → IsStartOf name basis.circuit texts start
+      → IsStartOf name basis.circuit texts basis.content.start → start ≡ basis.content.start
+  one_start (Some n) start a b =
+      (start_or_malformed (length basis.circuit.dffs) (texts Extra)).one_value start basis.content.start a b
+  one_start None start a b = a ∙ sym b
+
+  -- files that are denied for a circuit, classes and a start that the texts say are denied for those of the basis
+  denied_here : (a : Asked) → SaysCircuit true basis (texts Netlist)
+      → IsStartOf (start_name a) basis.circuit texts basis.content.start → AreDenied a texts
+      → ¬ AreValidFor a.command a.numbers.budget texts basis.circuit basis.representatives basis.content.start
+  denied_here a named stated denied valid =
+      let (c, circuit, (representatives, start, classes, is, none)) = denied in
+      let AreSo : net.Netlist → List ℕ → List Tern → Type 0 = AreValidFor a.command a.numbers.budget texts in
+      let same : c ≡ basis.circuit = one_circuit (texts Netlist) c basis.circuit circuit.stands named.0.stands in
+      let from : start ≡ basis.content.start = one_start (start_name a) start
+      (subst (λ (c : net.Netlist). IsStartOf (start_name a) c texts start) same is) stated in
+      let list : representatives ≡ basis.representatives =
+      one_classes basis.circuit representatives basis.representatives
+      (subst (λ (c : net.Netlist). AreClasses c representatives) same classes) named.1 in
+      none (subst (λ (c : net.Netlist). AreSo c representatives start) (sym same)
+          (subst (λ (l : List ℕ). AreSo basis.circuit l start) (sym list)
+      (subst (λ (s : List Tern). AreSo basis.circuit basis.representatives s) (sym from) valid)))
+
+  -- those of the basis are denied, if they aren't valid
+  is_denied : (a : Asked) → SaysCircuit true basis (texts Netlist)
+      → IsStartOf (start_name a) basis.circuit texts basis.content.start
+      → ¬ AreValidFor a.command a.numbers.budget texts basis.circuit basis.representatives basis.content.start
+      → AreDenied a texts
+  is_denied a good from none =
+      (basis.circuit, good.0, (basis.representatives, basis.content.start, good.1, from, none))
+
+  module _ (files : RunFiles) (start : Option (List ℕ)) where
+    abbrev checks : Asked
+    checks = asked_by (job.Check files start)
+
+    -- texts that say the basis of `check` are valid
+    says_valid : IsStated checks basis → SayTo checks basis 5 texts → ¬ AreDenied checks texts
+    says_valid stated says denied =
+        let named = says Netlist files.netlist (omega arith) refl in
+        let proved = says Proofs files.proofs (omega arith) refl in
+        denied_here checks named (start_of start stated (λ n reads. says Extra n (omega arith) reads)) denied (
+          basis.content,
+          record {
+            stated = refl;
+            vectors = says Tests files.tests (omega arith) refl;
+            reported = (says Report files.report (omega arith) refl).reported;
+            proved = proved.proved;
+            justified = proved.justified;
+          },
+        )
+
+    -- files that have a first trouble are denied
+    check_denied : (e : Trouble) → IsStated checks basis → SayTo checks basis 2 texts
+        → IsFirstTrouble basis.circuit basis.representatives basis.content.start (texts Tests) (texts Report)
+        (texts Proofs) e → AreDenied checks texts
+    check_denied e stated says first =
+        let good = says Netlist files.netlist (omega arith) refl in
+        is_denied checks good (start_of start stated (λ n reads. says Extra n (omega arith) reads)) (λ valid.
+        valid_has_no_trouble basis.circuit basis.representatives basis.content.start (texts Tests) (texts Report)
+        (texts Proofs) good.0.stands.is_circuit valid.0 e valid.1 first)
+
+    read_to : SayTo checks basis 4 texts → AreReadTo basis.circuit basis.representatives basis.content.start
+        (texts Tests) (texts Report) (before_proofs basis.content)
+    read_to before = record {
+      stated = refl;
+      vectors = before Tests files.tests (omega arith) refl;
+      reported = (before Report files.report (omega arith) refl).reported;
+      agrees = (before Report files.report (omega arith) refl).agrees;
+      none = refl;
+    }
+
+    module _ (budget : ℕ) where
+      abbrev reports : Asked
+      reports = asked_by (job.Report files budget start)
+
+      says_justified : IsStated reports basis → SayTo reports basis 5 texts → ¬ AreDenied reports texts
+      says_justified stated says denied =
+          let proved = says Proofs files.proofs (omega arith) refl in
+          denied_here reports (says Netlist files.netlist (omega arith) refl)
+          (start_of start stated (λ n reads. says Extra n (omega arith) reads)) denied
+          (basis.content, refl, proved.0, says Tests files.tests (omega arith) refl, proved.1)
+
+      -- tests and proofs with a first trouble justify no report
+      report_denied : (e : Trouble) → IsStated reports basis → SayTo reports basis 2 texts
+          → IsFirstUnjustified basis.circuit basis.representatives basis.content.start budget (texts Tests)
+          (texts Proofs) e → AreDenied reports texts
+      report_denied e stated says first = is_denied reports (says Netlist files.netlist (omega arith) refl)
+          (start_of start stated (λ n reads. says Extra n (omega arith) reads)) (λ justify. justifies_none justify)
+        where
+          justifies_none : ¬ JustifyReport basis.circuit basis.representatives basis.content.start budget (texts Tests)
+              (texts Proofs)
+          justifies_none (content, from, budget_is, vectors, good) =
+              justified_has_no_trouble basis.circuit basis.representatives (texts Tests)
+              (texts Proofs) content e vectors
+              good.proved good.justified
+              (subst (λ (b : ℕ). IsFirstUnjustified basis.circuit basis.representatives content.start b (texts Tests)
+              (texts Proofs) e) (sym budget_is)
+              (subst (λ (s : List Tern). IsFirstUnjustified basis.circuit basis.representatives s budget (texts Tests)
+              (texts Proofs) e) (sym from) first))
 
 -- ---- such texts say no basis
 
--- the text of the start is none
-abbrev HasBadStart : (InPort → List ℕ) → Type 0
-HasBadStart texts = HasCircuit texts (λ c. (line : ℕ) × IsMalformedStart (length c.dffs) (texts Extra) line)
-
--- and so isn't any
-bad_start : (texts : InPort → List ℕ) (c : net.Netlist) (start : List Tern) → HasBadStart texts
-    → IsGoodNetlist (texts Netlist) c → ¬ IsStartText (length c.dffs) (texts Extra) start
-bad_start texts c start has good is =
-    let bad = has_circuit texts _ c has good in
-    (start_or_malformed (length c.dffs) (texts Extra)).never_both start bad.0 is bad.1
-
--- nor is it the start that a job states
-bad_stated : (texts : InPort → List ℕ) (start : Option (List ℕ)) (name : List ℕ) (c : net.Netlist) (values : List Tern)
-    → start ≡ Some name → HasBadStart texts → IsGoodNetlist (texts Netlist) c → ¬ IsStartOf start c texts values
-bad_stated texts (Some n) name c values reads has good is = bad_start texts c values has good is
-bad_stated texts None name c values reads has good is = cc
-
--- nor are these the tests that a job names
-bad_tests : (texts : InPort → List ℕ) (tests : Option (List ℕ)) (name : List ℕ) (c : net.Netlist)
-    (list : List (List Bool)) (line : ℕ) → tests ≡ Some name → AreTestsOf tests c texts list
-    → ¬ IsMalformedTest c (texts Tests) line
-bad_tests texts (Some n) name c list line reads are bad = never_both c (texts Tests) list line are bad
-bad_tests texts None name c list line reads are bad = cc
-
--- the start of a job's texts is that of the basis
-start_is : (name : Option (List ℕ)) (texts : InPort → List ℕ) (basis : JobBasis) (start : List Tern)
-    → IsStartOf name basis.circuit texts start
-    → (name ≡ None → basis.content.start ≡ unknown_state basis.circuit)
-    → ((n : List ℕ) → name ≡ Some n → IsStartText (length basis.circuit.dffs) (texts Extra) basis.content.start)
-    → start ≡ basis.content.start
-start_is (Some n) texts basis start is stated says =
-    (start_or_malformed (length basis.circuit.dffs) (texts Extra)).one_value start basis.content.start is (says n refl)
-start_is None texts basis start is stated says = is ∙ sym (stated refl)
-
--- the texts of `check` are valid files for a circuit, its classes and a start
-abbrev AreValidTexts : (InPort → List ℕ) → net.Netlist → List ℕ → List Tern → Type 0
-AreValidTexts texts c representatives start =
-    AreValidFiles c representatives start (texts Tests) (texts Report) (texts Proofs)
-
--- those of `report` justify a report for a budget
-abbrev JustifyTexts : (InPort → List ℕ) → ℕ → net.Netlist → List ℕ → List Tern → Type 0
-JustifyTexts texts budget c representatives start =
-    JustifyReport c representatives start budget (texts Tests) (texts Proofs)
-
--- a circuit, its classes and a start that the texts say, of which this isn't so
-abbrev IsDenied : (InPort → List ℕ) → Option (List ℕ) → (net.Netlist → List ℕ → List Tern → Type 0) → Type 0
-IsDenied texts start AreSo = HasCircuit texts (λ c. (representatives : List ℕ) × (values : List Tern)
-    × AreClasses c representatives × IsStartOf start c texts values × (¬ AreSo c representatives values))
-
--- files that a judge denies for each circuit, classes and start that their texts say are denied for those of the basis
-denied_texts : (start : Option (List ℕ)) (texts : InPort → List ℕ) (basis : JobBasis)
-    → (start ≡ None → basis.content.start ≡ unknown_state basis.circuit)
-    → IsGoodNetlist (texts Netlist) basis.circuit × AreClasses basis.circuit basis.representatives
-    → ((n : List ℕ) → start ≡ Some n → IsStartText (length basis.circuit.dffs) (texts Extra) basis.content.start)
-    → (AreSo : net.Netlist → List ℕ → List Tern → Type 0) → IsDenied texts start AreSo
-    → ¬ AreSo basis.circuit basis.representatives basis.content.start
-denied_texts start texts basis stated named says AreSo denied so =
-    let (c, circuit, (representatives, values, classes, is, none)) = denied in
-    let same : c ≡ basis.circuit = one_circuit (texts Netlist) c basis.circuit circuit.stands named.0.stands in
-    let of_circuit : IsStartOf start basis.circuit texts values =
-    subst (λ (c : net.Netlist). IsStartOf start c texts values) same is in
-    let from : values ≡ basis.content.start = start_is start texts basis values of_circuit stated says in
-    let list : representatives ≡ basis.representatives =
-    one_classes basis.circuit representatives basis.representatives
-    (subst (λ (c : net.Netlist). AreClasses c representatives) same classes) named.1 in
-    none (subst (λ (c : net.Netlist). AreSo c representatives values) (sym same)
-    (subst (λ (l : List ℕ). AreSo basis.circuit l values) (sym list)
-    (subst (λ (s : List Tern). AreSo basis.circuit basis.representatives s) (sym from) so)))
-
 -- texts of which a job refuses one at a port don't all say a basis up to that port
-pub say_none : (job : Asked) (texts : InPort → List ℕ) (port : InPort) (name : List ℕ) (status : ℕ) (basis : JobBasis)
-    → IsStated job basis → input_name job port ≡ Some name → AreRefusedWith job texts port status
-    → ¬ SayTo job basis (order_of job port + 1) texts
-say_none job texts Netlist name status basis stated reads r says =
-    r.1 basis.circuit (says_netlist job basis (texts Netlist) (says Netlist name (omega arith) reads))
-say_none (sim netlist tests report start) texts Extra name status basis stated reads r says =
-    bad_start texts basis.circuit basis.content.start r.1 (says Netlist netlist (omega arith) refl)
-    (says Extra name (omega arith) reads)
-say_none (gen netlist tests report proofs options) texts Extra name status basis stated reads r says =
-    bad_start texts basis.circuit basis.content.start r.1 (says Netlist netlist (omega arith) refl)
-    (says Extra name (omega arith) reads)
-say_none (check netlist tests report proofs start) texts Extra name status basis stated reads r says =
-    bad_start texts basis.circuit basis.content.start r.1 (says Netlist netlist (omega arith) refl).0
-    (says Extra name (omega arith) reads)
-say_none (asked.report netlist tests proofs out budget start) texts Extra name status basis stated reads r says =
-    bad_start texts basis.circuit basis.content.start r.1 (says Netlist netlist (omega arith) refl).0
-    (says Extra name (omega arith) reads)
-say_none (respond netlist tests out fault start) texts Extra name status basis stated reads r says =
-    bad_start texts basis.circuit basis.content.start r.1 (says Netlist netlist (omega arith) refl)
-    (says Extra name (omega arith) reads)
-say_none (respond netlist tests out fault start) texts Tests name status basis stated reads r says =
-    let bad = has_circuit texts _ basis.circuit r.1 (says Netlist netlist (omega arith) refl) in
-    never_both basis.circuit (texts Tests) basis.content.list bad.1 (says Tests tests (omega arith) refl) bad.4
-say_none (sim netlist tests report start) texts Tests name status basis stated reads r says =
-    let bad = has_circuit texts _ basis.circuit r.1 (says Netlist netlist (omega arith) refl) in
-    never_both basis.circuit (texts Tests) basis.content.list bad.1 (says Tests tests (omega arith) refl) bad.3
-say_none (gen netlist tests report proofs options) texts Tests name status basis stated reads r says =
-    let bad = has_circuit texts _ basis.circuit r.1 (says Netlist netlist (omega arith) refl) in
-    never_both basis.circuit (texts Tests) basis.content.list bad.1 (says Tests name (omega arith) reads) bad.3
-say_none (gen netlist tests report proofs options) texts Faults name status basis stated reads r says =
-    let good = says Netlist netlist (omega arith) refl in
-    let bad = has_circuit texts _ basis.circuit r.1 good in
-    let few = lines_few basis.circuit good.stands.is_circuit in
-    (fault_list_or_malformed (length (faults_of basis.circuit)) (texts Faults) (omega (arith, few))).never_both
-    basis.chosen bad.2 (says Faults name (omega arith) reads) bad.5
-say_none (diagnose netlist tests responses out) texts Tests name status basis stated reads r says =
-    let bad = has_circuit texts _ basis.circuit r.1 (says Netlist netlist (omega arith) refl) in
-    never_both basis.circuit (texts Tests) basis.content.list bad.0 (says Tests tests (omega arith) refl) bad.1
-say_none (diagnose netlist tests responses out) texts Extra name status basis stated reads r says =
-    let bad = has_circuit texts _ basis.circuit r.1 (says Netlist netlist (omega arith) refl) in
-    let lists = one_list basis.circuit (texts Tests) bad.0 basis.content.list bad.1
-    (says Tests tests (omega arith) refl) in
-    let width = length basis.circuit.outputs in
-    never_responses width (length basis.content.list) (texts Extra) basis.rows bad.2.0
-    (says Extra responses (omega arith) refl)
-    (subst (λ (l : List (List Bool)). IsMalformedResponse width (length l) (texts Extra) bad.2.0) lists bad.2.1)
-say_none (compact netlist tests out) texts Tests name status basis stated reads (inl r) says =
-    let bad = has_circuit texts _ basis.circuit r.1 (says Netlist netlist (omega arith) refl) in
-    never_both basis.circuit (texts Tests) basis.content.list bad.0 (says Tests tests (omega arith) refl).vectors
-    bad.1.malformed
-say_none (compact netlist tests out) texts Tests name status basis stated reads (inr r) says =
-    few_or_many basis.circuit (texts Tests) basis.content.list (says Tests tests (omega arith) refl)
-    (has_circuit texts _ basis.circuit r.1 (says Netlist netlist (omega arith) refl))
-say_none (check netlist tests report proofs start) texts Proofs name status basis stated reads r says =
-    let named = says Netlist netlist (omega arith) refl in
-    let good = says Report report (omega arith) refl in
-    let proved = says Proofs proofs (omega arith) refl in
-    denied_texts start texts basis stated named (λ n reads. says Extra n (omega arith) reads)
-    (AreValidTexts texts) r.1 (
-      basis.content,
-      record {
-        stated = refl;
-        vectors = says Tests tests (omega arith) refl;
-        reported = good.reported;
-        proved = proved.proved;
-        justified = proved.justified;
-      },
-    )
-say_none (asked.report netlist tests proofs out budget start) texts Proofs name status basis stated reads r says =
-    let proved = says Proofs proofs (omega arith) refl in
-    denied_texts start texts basis stated (says Netlist netlist (omega arith) refl)
-    (λ n reads. says Extra n (omega arith) reads)
-    (JustifyTexts texts budget) r.1
-    (basis.content, refl, proved.0, says Tests tests (omega arith) refl, proved.1)
-say_none job texts Extra name status basis stated reads r says = let none : None ≡ Some name = reads in cc
-say_none job texts port name status basis stated reads r says = r
+pub say_none : (j : Job) (texts : InPort → List ℕ) (port : InPort) (name : List ℕ) (status : ℕ) (basis : JobBasis)
+    → IsStated (asked_by j) basis → input_name (asked_by j) port ≡ Some name
+    → AreRefusedWith (asked_by j) texts port status → ¬ SayTo (asked_by j) basis (order_of (asked_by j) port + 1) texts
+say_none j texts Netlist name status basis stated reads r says =
+    r.1 basis.circuit (says_netlist j basis texts 1 Netlist name reads (omega arith) says)
+say_none j texts Report name status basis stated reads r says = r
+say_none (job.Check files start) texts Proofs name status basis stated reads r says =
+    says_valid texts basis files start stated says r.1
+say_none (job.Report files budget start) texts Proofs name status basis stated reads r says =
+    says_justified texts basis files start budget stated says r.1
+say_none j texts Proofs name status basis stated reads r says =
+    let (c, circuit, (representatives, start, classes, is, none)) = r.1 in none tt
+say_none j texts port name status basis stated reads r says =
+    refused_says j texts tt reads r basis (says_netlist j basis texts _ port name reads (omega arith) says)
+    (λ p n some less named. says p n (omega (arith, less)) named) (says port name (omega arith) reads)
 
 -- ---- a text that a job refuses for an error is one of these
 
 -- it refuses one of them, with this status
 abbrev pub IsRefusedBy : Asked → (InPort → List ℕ) → ℕ → Type 0
-IsRefusedBy job texts status = (port : InPort) × (name : List ℕ) × (input_name job port ≡ Some name)
-    × AreRefusedWith job texts port status
+IsRefusedBy a texts status = (port : InPort) × (name : List ℕ) × (input_name a port ≡ Some name)
+    × AreRefusedWith a texts port status
 
-module _ (texts : InPort → List ℕ) (basis : JobBasis) where
-  -- the start of the basis is that of the texts
-  start_of : (name : Option (List ℕ)) → (name ≡ None → basis.content.start ≡ unknown_state basis.circuit)
-      → ((n : List ℕ) → name ≡ Some n
-      → IsStartText (length basis.circuit.dffs) (texts Extra) basis.content.start)
-      → IsStartOf name basis.circuit texts basis.content.start
-  start_of (Some n) stated says = says n refl
-  start_of None stated says = stated refl
+-- What a job's refusal of a text tells of the texts.
+pub record Refuses (a : Asked) (texts : InPort → List ℕ) (basis : JobBasis) (e : RunError) (port : InPort)
+    (name : List ℕ) : Type 0 where
+  pub at : refused_port a e ≡ Some port
+  pub reads : input_name a port ≡ Some name
+  pub stated : IsStated a basis
+  pub fault : order_of a Tests ≤ order_of a port → HasFault a basis.circuit
+  pub refused : IsRefusedFor a basis e (texts port)
+  pub before : SayTo a basis (order_of a port) texts
 
-  -- and so are the vectors of the tests that a job may name
-  vectors_of : (name : Option (List ℕ))
-      → ((n : List ℕ) → name ≡ Some n → IsTestText basis.circuit (texts Tests) basis.content.list)
-      → (list : List (List Bool)) × AreTestsOf name basis.circuit texts list
-  vectors_of (Some n) says = (basis.content.list, says n refl)
-  vectors_of None says = ([], refl)
+-- a text with a first trouble of its own
+of_text : (j : Job) (texts : InPort → List ℕ) (basis : JobBasis) (e : RunError) (port : InPort) (name : List ℕ)
+    → IsText port → Refuses (asked_by j) texts basis e port name → IsRefusedBy (asked_by j) texts (exit_status e)
+of_text j texts basis e port name is h = (port, name, h.reads, row port is r)
+  where
+    r : IsRefusedText (asked_by j) texts port (exit_status e)
+    r = record {
+      error = e;
+      status_is = refl;
+      at = h.at;
+      basis = basis;
+      circuit = says_netlist j basis texts _ port name h.reads
+          (netlist_first (may_state_start (asked_by j)) port is) h.before;
+      stated = h.stated;
+      before = λ p n some less named. h.before p n less named;
+      fault = h.fault;
+      refused = h.refused;
+    }
 
-  -- those of the basis are such, if this isn't so of them
-  is_denied : (start : Option (List ℕ)) (AreSo : net.Netlist → List ℕ → List Tern → Type 0)
-      → IsGoodNetlist (texts Netlist) basis.circuit × AreClasses basis.circuit basis.representatives
-      → IsStartOf start basis.circuit texts basis.content.start
-      → ¬ AreSo basis.circuit basis.representatives basis.content.start → IsDenied texts start AreSo
-  is_denied start AreSo good from none =
-      (basis.circuit, good.0, (basis.representatives, basis.content.start, good.1, from, none))
+    row : (p : InPort) → IsText p → IsRefusedText (asked_by j) texts p (exit_status e)
+        → AreRefusedWith (asked_by j) texts p (exit_status e)
+    row Extra is r = r
+    row Tests is r = r
+    row Faults is r = r
+    row Netlist is r = absurd is
+    row Report is r = absurd is
+    row Proofs is r = absurd is
 
-  -- files that have a first trouble aren't valid
-  denied : (netlist tests report proofs : List ℕ) (start : Option (List ℕ)) (e : Trouble)
-      → SaysBasis (check netlist tests report proofs start) basis Netlist (texts Netlist)
-      → IsStartOf start basis.circuit texts basis.content.start
-      → IsFirstTrouble basis.circuit basis.representatives basis.content.start (texts Tests) (texts Report)
-      (texts Proofs) e
-      → IsRefusedBy (check netlist tests report proofs start) texts 1
-  denied netlist tests report proofs start e good from first = (
-    Proofs,
-    proofs,
+-- if a text is refused for an error, the job refuses one of its texts with the status of that error
+pub refused_with : (j : Job) (texts : InPort → List ℕ) (basis : JobBasis) (e : RunError) (port : InPort)
+    (name : List ℕ) → Refuses (asked_by j) texts basis e port name → IsRefusedBy (asked_by j) texts (exit_status e)
+refused_with j texts basis TooLong Netlist name h =
+    (Netlist, name, h.reads, (refl, λ c good. omega (arith, h.refused, good.short)))
+refused_with j texts basis (Refused error) Netlist name h =
+    (Netlist, name, h.reads, (refl, λ c good. h.refused.none c good.stands))
+refused_with (job.Check files start) texts basis (Denied (trouble.Report line)) Report name h = (
+  Proofs,
+  files.proofs,
+  refl,
+  (
     refl,
-    (
-      refl,
-      is_denied start (AreValidTexts texts) good from (λ valid.
-          valid_has_no_trouble basis.circuit basis.representatives basis.content.start (texts Tests) (texts Report)
-          (texts Proofs) good.0.stands.is_circuit valid.0 e valid.1 first),
-    ),
-  )
-
-  -- tests and proofs with a first trouble justify no report
-  denied_report : (netlist tests proofs out : List ℕ) (budget : ℕ) (start : Option (List ℕ)) (e : Trouble)
-      → SaysBasis (asked.report netlist tests proofs out budget start) basis Netlist (texts Netlist)
-      → IsStartOf start basis.circuit texts basis.content.start
-      → IsFirstUnjustified basis.circuit basis.representatives basis.content.start budget (texts Tests)
-      (texts Proofs) e
-      → IsRefusedBy (asked.report netlist tests proofs out budget start) texts 1
-  denied_report netlist tests proofs out budget start e good from first = (
-    Proofs,
-    proofs,
+    check_denied texts basis files start (trouble.Report line) h.stated
+        (λ p n less named. h.before p n (omega (arith, less)) named)
+        (basis.content.list, h.before Tests files.tests (omega arith) refl, h.refused),
+  ),
+)
+refused_with (job.Check files start) texts basis (Denied (trouble.Proofs line)) Proofs name h = (
+  Proofs,
+  files.proofs,
+  refl,
+  (
     refl,
-    (refl, is_denied start (JustifyTexts texts budget) good from (λ justify. justifies_none justify e first)),
-  )
-    where
-      justifies_none : JustifyReport basis.circuit basis.representatives basis.content.start budget (texts Tests)
-          (texts Proofs) → (e : Trouble)
-          → ¬ IsFirstUnjustified basis.circuit basis.representatives basis.content.start budget (texts Tests)
-          (texts Proofs) e
-      justifies_none (content, stated, budget_is, vectors, good) e first =
-          justified_has_no_trouble basis.circuit basis.representatives (texts Tests) (texts Proofs) content e vectors
-          good.proved good.justified
-          (subst (λ (b : ℕ). IsFirstUnjustified basis.circuit basis.representatives content.start b (texts Tests)
-          (texts Proofs) e) (sym budget_is)
-          (subst (λ (s : List Tern). IsFirstUnjustified basis.circuit basis.representatives s budget (texts Tests)
-          (texts Proofs) e) (sym stated) first))
-
-  read_to : (netlist tests report proofs : List ℕ) (start : Option (List ℕ))
-      → SayTo (check netlist tests report proofs start) basis 4 texts
-      → AreReadTo basis.circuit basis.representatives basis.content.start (texts Tests) (texts Report)
-      (before_proofs basis.content)
-  read_to netlist tests report proofs start before = record {
-    stated = refl;
-    vectors = before Tests tests (omega arith) refl;
-    reported = (before Report report (omega arith) refl).reported;
-    agrees = (before Report report (omega arith) refl).agrees;
-    none = refl;
-  }
-
-  -- if a text is refused for an error, the job refuses one of its texts with the status of that error
-  pub refused_with : (job : Asked) (e : RunError) (at : InPort) (name : List ℕ) → IsStated job basis
-      → ((line : ℕ) → e ≡ BadTests line → HasFault job basis.circuit) → refused_port job e ≡ Some at
-      → ((p : InPort) → refused_port job e ≡ Some p → IsRefusedFor job basis e (texts p)
-      × SayTo job basis (order_of job p) texts × (input_name job p ≡ Some name))
-      → IsRefusedBy job texts (exit_status e)
-  refused_with (sim netlist tests report start) (BadStart line) at name stated has is h =
-      let (refused, before, reads) = h Extra refl in
-      (Extra, name, reads, (refl, (basis.circuit, before Netlist netlist (omega arith) refl, (line, refused))))
-  refused_with (gen netlist tests report proofs options) (BadStart line) at name stated has is h =
-      let (refused, before, reads) = h Extra refl in
-      (Extra, name, reads, (refl, (basis.circuit, before Netlist netlist (omega arith) refl, (line, refused))))
-  refused_with (check netlist tests report proofs start) (BadStart line) at name stated has is h =
-      let (refused, before, reads) = h Extra refl in
-      (Extra, name, reads, (refl, (basis.circuit, (before Netlist netlist (omega arith) refl).0, (line, refused))))
-  refused_with (asked.report netlist tests proofs out budget start) (BadStart line) at name stated has is h =
-      let (refused, before, reads) = h Extra refl in
-      (Extra, name, reads, (refl, (basis.circuit, (before Netlist netlist (omega arith) refl).0, (line, refused))))
-  refused_with (respond netlist tests out fault start) (BadStart line) at name stated has is h =
-      let (refused, before, reads) = h Extra refl in
-      (Extra, name, reads, (refl, (basis.circuit, before Netlist netlist (omega arith) refl, (line, refused))))
-  refused_with (respond netlist tests out fault start) (BadTests line) at name stated has is h =
-      let (refused, before, reads) = h Tests refl in
-      let from = start_of start stated (λ n reads. before Extra n (omega arith) reads) in
-      let good = before Netlist netlist (omega arith) refl in
-      (Tests, tests, refl, (refl, (basis.circuit, good, (basis.content.start, line, from, has line refl, refused))))
-  refused_with (sim netlist tests report start) (BadTests line) at name stated has is h =
-      let (refused, before, reads) = h Tests refl in
-      let from = start_of start stated (λ n reads. before Extra n (omega arith) reads) in
-      let good = before Netlist netlist (omega arith) refl in
-      (Tests, tests, refl, (refl, (basis.circuit, good, (basis.content.start, line, from, refused))))
-  refused_with (gen netlist tests report proofs options) (BadTests line) at name stated has is h =
-      let (refused, before, reads) = h Tests refl in
-      let from = start_of options.start stated (λ n reads. before Extra n (omega arith) reads) in
-      let good = before Netlist netlist (omega arith) refl in
-      (Tests, name, reads, (refl, (basis.circuit, good, (basis.content.start, line, from, refused))))
-  refused_with (gen netlist tests report proofs options) (BadFaults line) at name stated has is h =
-      let (refused, before, reads) = h Faults refl in
-      let from = start_of options.start stated (λ n reads. before Extra n (omega arith) reads) in
-      let (list, vectors) = vectors_of options.first (λ n reads. before Tests n (omega arith) reads) in
-      let good = before Netlist netlist (omega arith) refl in
-      (Faults, name, reads, (refl, (basis.circuit, good, (basis.content.start, list, line, from, vectors, refused))))
-  refused_with job (BadFaults line) at name stated has is h = let none : None ≡ Some name = (h Faults refl).2 in cc
-  refused_with (compact netlist tests out) (BadTests line) at name stated has is h =
-      let (refused, before, reads) = h Tests refl in
-      (Tests, tests, refl, inl (refl, (basis.circuit, before Netlist netlist (omega arith) refl, (line, refused))))
-  refused_with (compact netlist tests out) TooManyVectors at name stated has is h =
-      let (refused, before, reads) = h Tests refl in
-      (Tests, tests, refl, inr (refl, (basis.circuit, before Netlist netlist (omega arith) refl, refused)))
-  refused_with (diagnose netlist tests responses out) (BadTests line) at name stated has is h =
-      let (refused, before, reads) = h Tests refl in
-      (Tests, tests, refl, (refl, (basis.circuit, before Netlist netlist (omega arith) refl, (line, refused))))
-  refused_with (diagnose netlist tests responses out) (BadResponses line) at name stated has is h =
-      let (refused, before, reads) = h Extra refl in
-      let vectors = before Tests tests (omega arith) refl in
-      let good = before Netlist netlist (omega arith) refl in
-      (Extra, responses, refl, (refl, (basis.circuit, good, (basis.content.list, vectors, (line, refused)))))
-  refused_with (check netlist tests report proofs start) (Denied (trouble.Tests line)) at name stated has is h =
-      let (refused, before, reads) = h Tests refl in
-      denied netlist tests report proofs start (trouble.Tests line) (before Netlist netlist (omega arith) refl)
-      (start_of start stated (λ n reads. before Extra n (omega arith) reads)) refused
-  refused_with (check netlist tests report proofs start) (Denied (trouble.Report line)) at name stated has is h =
-      let (refused, before, reads) = h Report refl in
-      denied netlist tests report proofs start (trouble.Report line) (before Netlist netlist (omega arith) refl)
-      (start_of start stated (λ n reads. before Extra n (omega arith) reads))
-      (basis.content.list, before Tests tests (omega arith) refl, refused)
-  refused_with (check netlist tests report proofs start) (Denied (trouble.Proofs line)) at name stated has is h =
-      let (refused, before, reads) = h Proofs refl in
-      denied netlist tests report proofs start (trouble.Proofs line) (before Netlist netlist (omega arith) refl)
-      (start_of start stated (λ n reads. before Extra n (omega arith) reads))
-      (before_proofs basis.content, read_to netlist tests report proofs start before, refused)
-  refused_with (check netlist tests report proofs start) (Denied (trouble.Fault number)) at name stated has is h =
-      let (refused, before, reads) = h Proofs refl in
-      denied netlist tests report proofs start (trouble.Fault number) (before Netlist netlist (omega arith) refl)
-      (start_of start stated (λ n reads. before Extra n (omega arith) reads))
-      (before_proofs basis.content, read_to netlist tests report proofs start before, refused)
-  refused_with (asked.report netlist tests proofs out budget start) (Denied (trouble.Tests line)) at name stated has is h =
-      let (refused, before, reads) = h Tests refl in
-      denied_report netlist tests proofs out budget start (trouble.Tests line)
-      (before Netlist netlist (omega arith) refl) (start_of start stated (λ n reads. before Extra n (omega arith) reads))
-      refused
-  refused_with (asked.report netlist tests proofs out budget start) (Denied (trouble.Proofs line)) at name stated has is h =
-      let (refused, before, reads) = h Proofs refl in
-      denied_report netlist tests proofs out budget start (trouble.Proofs line)
-      (before Netlist netlist (omega arith) refl) (start_of start stated (λ n reads. before Extra n (omega arith) reads))
-      (basis.content.list, before Tests tests (omega arith) refl, refused)
-  refused_with (asked.report netlist tests proofs out budget start) (Denied (trouble.Fault number)) at name stated has is h =
-      let (refused, before, reads) = h Proofs refl in
-      denied_report netlist tests proofs out budget start (trouble.Fault number)
-      (before Netlist netlist (omega arith) refl) (start_of start stated (λ n reads. before Extra n (omega arith) reads))
-      (basis.content.list, before Tests tests (omega arith) refl, refused)
-  refused_with job TooLong at name stated has is h =
-      (Netlist, name, (h Netlist refl).2, (refl, λ c good. omega (arith, (h Netlist refl).0, good.short)))
-  refused_with job (Refused error) at name stated has is h =
-      (Netlist, name, (h Netlist refl).2, (refl, λ c good. (h Netlist refl).0.none c good.stands))
-  refused_with job e at name stated has is h = absurd (cc)
+    check_denied texts basis files start (trouble.Proofs line) h.stated
+        (λ p n less named. h.before p n (omega (arith, less)) named)
+        (before_proofs basis.content, read_to texts basis files start h.before, h.refused),
+  ),
+)
+refused_with (job.Check files start) texts basis (Denied (trouble.Fault number)) Proofs name h = (
+  Proofs,
+  files.proofs,
+  refl,
+  (
+    refl,
+    check_denied texts basis files start (trouble.Fault number) h.stated
+        (λ p n less named. h.before p n (omega (arith, less)) named)
+        (before_proofs basis.content, read_to texts basis files start h.before, h.refused),
+  ),
+)
+refused_with (job.Report files budget start) texts basis (Denied (trouble.Proofs line)) Proofs name h = (
+  Proofs,
+  files.proofs,
+  refl,
+  (
+    refl,
+    report_denied texts basis files start budget (trouble.Proofs line) h.stated
+        (λ p n less named. h.before p n (omega (arith, less)) named)
+        (basis.content.list, h.before Tests files.tests (omega arith) refl, h.refused),
+  ),
+)
+refused_with (job.Report files budget start) texts basis (Denied (trouble.Fault number)) Proofs name h = (
+  Proofs,
+  files.proofs,
+  refl,
+  (
+    refl,
+    report_denied texts basis files start budget (trouble.Fault number) h.stated
+        (λ p n less named. h.before p n (omega (arith, less)) named)
+        (basis.content.list, h.before Tests files.tests (omega arith) refl, h.refused),
+  ),
+)
+refused_with j texts basis e Extra name h = of_text j texts basis e Extra name tt h
+refused_with j texts basis e Tests name h = of_text j texts basis e Tests name tt h
+refused_with j texts basis e Faults name h = of_text j texts basis e Faults name tt h
+refused_with (job.Report files budget start) texts basis (Denied (trouble.Report line)) Report name h =
+    let none : None ≡ Some name = h.reads in cc
+refused_with j texts basis (Denied (trouble.Tests line)) Netlist name h =
+    let other = port_is (asked_by j) (Denied (trouble.Tests line)) Netlist h.at in cc
+refused_with j texts basis e Netlist name h = let other = port_is (asked_by j) e Netlist h.at in cc
+refused_with j texts basis e Report name h =
+    let at = h.at in let other = port_is (asked_by j) e Report h.at in cc
+refused_with j texts basis e Proofs name h =
+    let at = h.at in let other = port_is (asked_by j) e Proofs h.at in cc
 
 -- ---- one status
 
-module _ (texts : InPort → List ℕ) where
-  -- where another file than the netlist is refused, the netlist is good
-  netlist_or_good : (job : Asked) (port : InPort) (status : ℕ) → AreRefusedWith job texts port status
-      → (3 ≡ status) ⊎ HasCircuit texts (λ c. Unit {0})
-  netlist_or_good job Netlist status r = inl (sym r.0)
-  netlist_or_good (sim netlist tests report start) Tests status r = inr (r.1.0, r.1.1, tt)
-  netlist_or_good (gen netlist tests report proofs options) Tests status r = inr (r.1.0, r.1.1, tt)
-  netlist_or_good (gen netlist tests report proofs options) Faults status r = inr (r.1.0, r.1.1, tt)
-  netlist_or_good (respond netlist tests out fault start) Tests status r = inr (r.1.0, r.1.1, tt)
-  netlist_or_good (diagnose netlist tests responses out) Tests status r = inr (r.1.0, r.1.1, tt)
-  netlist_or_good (compact netlist tests out) Tests status (inl r) = inr (r.1.0, r.1.1, tt)
-  netlist_or_good (compact netlist tests out) Tests status (inr r) = inr (r.1.0, r.1.1, tt)
-  netlist_or_good (check netlist tests report proofs start) Proofs status r = inr (r.1.0, r.1.1, tt)
-  netlist_or_good (asked.report netlist tests proofs out budget start) Proofs status r = inr (r.1.0, r.1.1, tt)
-  netlist_or_good (diagnose netlist tests responses out) Extra status r = inr (r.1.0, r.1.1, tt)
-  netlist_or_good job Extra status r = inr (r.1.0, r.1.1, tt)
-  netlist_or_good job port status r = absurd r
+-- few tests aren't both malformed early and too many
+early_or_many : (few : Bool) (c d : net.Netlist) (text : List ℕ) (line : ℕ) → few ≡ true → c ≡ d
+    → IsWrongTest few c text line → ¬ HasTooManyVectors d text
+early_or_many true c d text line is same wrong many = malformed_or_many d text line
+    (subst (λ (n : net.Netlist). IsMalformedEarly n text line) same wrong) many
+early_or_many false c d text line is same wrong many = cc
 
-  of_netlist : (job : Asked) (port : InPort) (s t : ℕ) → AreRefusedWith job texts Netlist s
-      → AreRefusedWith job texts port t → s ≡ t
-  of_netlist job port s t x y = elim (netlist_or_good job port t y) [
+-- two errors that refuse the text of one port have one status
+same_status : (a : Asked) (text : List ℕ) (port : InPort) (b d : JobBasis) (e f : RunError)
+    → refused_port a e ≡ Some port → refused_port a f ≡ Some port → b.circuit ≡ d.circuit → IsText port
+    → IsRefusedFor a b e text → IsRefusedFor a d f text → exit_status e ≡ exit_status f
+same_status a text port b d (BadTests line) TooManyVectors x y same is p q = absurd (early_or_many
+    (takes_few a.command) b.circuit d.circuit text line (at_port (takes_few a.command) Tests port y).0 same p q)
+same_status a text port b d TooManyVectors (BadTests line) x y same is p q = absurd (early_or_many
+    (takes_few a.command) d.circuit b.circuit text line (at_port (takes_few a.command) Tests port x).0 (sym same) q p)
+same_status a text port b d (Denied t) (Denied u) x y same is p q = refl
+same_status a text port b d (Denied t) TooManyVectors x y same is p q = absurd (few_judge_none a.command
+    (at_port (takes_few a.command) Tests port y).0 (at_port (judges a.command) (trouble_port t) port x).0)
+same_status a text port b d TooManyVectors (Denied t) x y same is p q = absurd (few_judge_none a.command
+    (at_port (takes_few a.command) Tests port x).0 (at_port (judges a.command) (trouble_port t) port y).0)
+same_status a text port b d (Denied t) (BadTests line) x y same is p q =
+    let yes = (at_port (judges a.command) (trouble_port t) port x).0 in
+    let no = (at_other (judges a.command) Tests port y).0 in cc
+same_status a text port b d (BadTests line) (Denied t) x y same is p q =
+    let no = (at_other (judges a.command) Tests port x).0 in
+    let yes = (at_port (judges a.command) (trouble_port t) port y).0 in cc
+same_status a text port b d (BadStart line) (BadResponses number) x y same is p q =
+    let yes = (at_port (may_state_start a) Extra port x).0 in
+    let no = (at_other (may_state_start a) Extra port y).0 in cc
+same_status a text port b d (BadResponses number) (BadStart line) x y same is p q =
+    let no = (at_other (may_state_start a) Extra port x).0 in
+    let yes = (at_port (may_state_start a) Extra port y).0 in cc
+same_status a text Netlist b d e f x y same is p q = absurd is
+same_status a text Report b d e f x y same is p q = absurd is
+same_status a text Proofs b d e f x y same is p q = absurd is
+same_status a text port b d (Denied t) f x y same is p q =
+    let first = trouble_at t port is (port_is a (Denied t) port x) in let second = port_is a f port y in cc
+same_status a text port b d e (Denied t) x y same is p q =
+    let first = port_is a e port x in let second = trouble_at t port is (port_is a (Denied t) port y) in cc
+same_status a text port b d e f x y same is p q =
+    let first = port_is a e port x in let second = port_is a f port y in cc
+
+-- one port, or two with two places
+places_differ : (j : Job) (p q : InPort) → (p ≡ q) ⊎ (order_of (asked_by j) p ≢ order_of (asked_by j) q)
+places_differ j p q = elim (same_or_other p q) [
+  | inl same ↦ inl same
+  | inr other ↦ inr (order_differs (asked_by j) p q other)
+]
+
+less_of : (x y : ℕ) → x ≢ y → y ≤ x → y < x
+less_of x y other late = elim (cases_lt y x) [
+  | inl less ↦ less
+  | inr not ↦ absurd (other (omega (arith, late, not)))
+]
+
+module _ (j : Job) (texts : InPort → List ℕ) where
+  -- where another file than the netlist is refused, the netlist is good
+  netlist_or_good : (port : InPort) (status : ℕ) → AreRefusedWith (asked_by j) texts port status
+      → (3 ≡ status) ⊎ HasCircuit texts (λ c. Unit {0})
+  netlist_or_good Netlist status r = inl (sym r.0)
+  netlist_or_good Report status r = absurd r
+  netlist_or_good Proofs status r = inr (r.1.0, r.1.1, tt)
+  netlist_or_good port status r = inr (r.basis.circuit, r.circuit, tt)
+
+  of_netlist : (port : InPort) (s t : ℕ) → AreRefusedWith (asked_by j) texts Netlist s
+      → AreRefusedWith (asked_by j) texts port t → s ≡ t
+  of_netlist port s t x y = elim (netlist_or_good port t y) [
     | inl three ↦ x.0 ∙ three
     | inr good ↦ absurd (x.1 good.0 good.1)
   ]
 
+  -- a text that is refused at one port was said before one is refused at a later port
+  earlier : (p q : InPort) (m : List ℕ) (s t : ℕ) → IsText p → input_name (asked_by j) p ≡ Some m
+      → IsRefusedText (asked_by j) texts p s → IsRefusedText (asked_by j) texts q t
+      → order_of (asked_by j) p < order_of (asked_by j) q → ⊥
+  earlier p q m s t is reads x y less = refused_says j texts is reads x y.basis y.circuit
+      (λ r n some before named. y.before r n some (omega (arith, before, less)) named)
+      (y.before p m (netlist_first (may_state_start (asked_by j)) p is) less reads)
+
+  -- at one port there is one status
+  at_one_port : (p : InPort) (s t : ℕ) → IsText p → IsRefusedText (asked_by j) texts p s
+      → IsRefusedText (asked_by j) texts p t → s ≡ t
+  at_one_port p s t is x y = x.status_is
+      ∙ same_status (asked_by j) (texts p) p x.basis y.basis x.error y.error x.at y.at
+      (one_circuit (texts Netlist) x.basis.circuit y.basis.circuit x.circuit.stands y.circuit.stands) is x.refused
+      y.refused ∙ sym y.status_is
+
+  -- where the files of a job are denied, no text of it is refused but with status 1
+  denied_text : (a : Asked) (q : InPort) (n : List ℕ) (s t : ℕ) → IsText q → judges a.command ≡ true
+      → may_state_start a ≡ true → input_name a Faults ≡ None → (s ≡ 1) × AreDenied a texts
+      → input_name a q ≡ Some n → IsRefusedText a texts q t → s ≡ t
+  denied_text a q n s t is judged may unlisted x reads y = x.0 ∙ by y.error y.at y.refused ∙ sym y.status_is
+    where
+      stated : (name : Option (List ℕ)) (m : List ℕ) (c d : net.Netlist) (start : List Tern) (line : ℕ) → c ≡ d
+          → name ≡ Some m → IsStartOf name c texts start → ¬ IsMalformedStart (length d.dffs) (texts Extra) line
+      stated None m c d start line same named begins wrong = cc
+      stated (Some k) m c d start line same named begins wrong =
+          (start_or_malformed (length c.dffs) (texts Extra)).never_both start line begins
+          (subst (λ (g : net.Netlist). IsMalformedStart (length g.dffs) (texts Extra) line) (sym same) wrong)
+
+      no_start_wrong : (line : ℕ) → input_name a Extra ≡ Some n
+          → ¬ IsMalformedStart (length y.basis.circuit.dffs) (texts Extra) line
+      no_start_wrong line named =
+          let (c, circuit, (representatives, start, classes, begins, none)) = x.1 in
+          stated (start_name a) n c y.basis.circuit start line
+          (one_circuit (texts Netlist) c y.basis.circuit circuit.stands y.circuit.stands)
+          (ap (λ (b : Bool). if b then input_name a Extra else None) may ∙ named) begins
+
+      by : (e : RunError) → refused_port a e ≡ Some q → IsRefusedFor a y.basis e (texts q) → 1 ≡ exit_status e
+      by (Denied found) at refused = refl
+      by (BadStart line) at refused =
+          let at_extra : Some Extra ≡ Some q = port_is a (BadStart line) q at in
+          let same : q ≡ Extra = cc in
+          absurd (no_start_wrong line (ap (input_name a) (sym same) ∙ reads)
+          (subst (λ (p : InPort). IsRefusedFor a y.basis (BadStart line) (texts p)) same refused))
+      by (BadTests line) at refused = let none = (at_other (judges a.command) Tests q at).0 in cc
+      by TooManyVectors at refused =
+          absurd (few_judge_none a.command (at_port (takes_few a.command) Tests q at).0 judged)
+      by (BadResponses line) at refused = let none = (at_other (may_state_start a) Extra q at).0 in cc
+      by (BadFaults line) at refused =
+          let none : input_name a q ≡ None = (let same : q ≡ Faults = cc in ap (input_name a) same ∙ unlisted) in cc
+      by e at refused = absurd (not_netlist q is (port_is a e q at))
+        where
+          not_netlist : (p : InPort) → IsText p → error_port e ≡ Some p → ⊥
+          not_netlist Extra is other = cc
+          not_netlist Tests is other = cc
+          not_netlist Faults is other = cc
+          not_netlist p is other = is
+
+  of_denied : (k : Job) (q : InPort) (n : List ℕ) (s t : ℕ) → IsText q → input_name (asked_by k) q ≡ Some n
+      → AreRefusedWith (asked_by k) texts Proofs s → IsRefusedText (asked_by k) texts q t → s ≡ t
+  of_denied (job.Check files start) q n s t is reads x y =
+      denied_text (asked_by (job.Check files start)) q n s t is refl refl refl x reads y
+  of_denied (job.Report files budget start) q n s t is reads x y =
+      denied_text (asked_by (job.Report files budget start)) q n s t is refl refl refl x reads y
+  of_denied k q n s t is reads x y =
+      let (c, circuit, (representatives, start, classes, begins, none)) = x.1 in absurd (none tt)
+
+  text_or_text : (p q : InPort) (m n : List ℕ) (s t : ℕ) → IsText p → IsText q → input_name (asked_by j) p ≡ Some m
+      → input_name (asked_by j) q ≡ Some n → IsRefusedText (asked_by j) texts p s
+      → IsRefusedText (asked_by j) texts q t → (p ≡ q) ⊎ (order_of (asked_by j) p ≢ order_of (asked_by j) q) → s ≡ t
+  text_or_text p q m n s t is also a b x y (inl same) =
+      at_one_port p s t is x (subst (λ (r : InPort). IsRefusedText (asked_by j) texts r t) (sym same) y)
+  text_or_text p q m n s t is also a b x y (inr other) =
+      elim (cases_lt (order_of (asked_by j) p) (order_of (asked_by j) q)) [
+        | inl less ↦ absurd (earlier p q m s t is a x y less)
+        | inr late ↦ absurd (earlier q p n t s also b y x (less_of (order_of (asked_by j) p) (order_of (asked_by j) q)
+            other late))
+      ]
+
   -- whichever texts a job refuses, it refuses them with one status
-  pub one_status : (job : Asked) (p q : InPort) (m n : List ℕ) (s t : ℕ) → input_name job p ≡ Some m
-      → input_name job q ≡ Some n → AreRefusedWith job texts p s → AreRefusedWith job texts q t → s ≡ t
-  one_status job Netlist q m n s t a b x y = of_netlist job q s t x y
-  one_status job p Netlist m n s t a b x y = sym (of_netlist job p t s y x)
-  one_status (sim netlist tests report start) Tests Tests m n s t a b x y = x.0 ∙ sym y.0
-  one_status (sim netlist tests report start) Extra Tests m n s t a b x y =
-      absurd (bad_stated texts start m y.1.0 y.1.2.0 a x.1 y.1.1 y.1.2.2)
-  one_status (sim netlist tests report start) Tests Extra m n s t a b x y =
-      absurd (bad_stated texts start n x.1.0 x.1.2.0 b y.1 x.1.1 x.1.2.2)
-  one_status (gen netlist tests report proofs options) Tests Tests m n s t a b x y = x.0 ∙ sym y.0
-  one_status (gen netlist tests report proofs options) Faults Faults m n s t a b x y = x.0 ∙ sym y.0
-  one_status (gen netlist tests report proofs options) Extra Tests m n s t a b x y =
-      absurd (bad_stated texts options.start m y.1.0 y.1.2.0 a x.1 y.1.1 y.1.2.2)
-  one_status (gen netlist tests report proofs options) Tests Extra m n s t a b x y =
-      absurd (bad_stated texts options.start n x.1.0 x.1.2.0 b y.1 x.1.1 x.1.2.2)
-  one_status (gen netlist tests report proofs options) Extra Faults m n s t a b x y =
-      absurd (bad_stated texts options.start m y.1.0 y.1.2.0 a x.1 y.1.1 y.1.2.3)
-  one_status (gen netlist tests report proofs options) Faults Extra m n s t a b x y =
-      absurd (bad_stated texts options.start n x.1.0 x.1.2.0 b y.1 x.1.1 x.1.2.3)
-  one_status (gen netlist tests report proofs options) Tests Faults m n s t a b x y =
-      let bad = has_circuit texts _ y.1.0 x.1 y.1.1 in
-      absurd (bad_tests texts options.first m y.1.0 y.1.2.1 bad.1 a y.1.2.4 bad.3)
-  one_status (gen netlist tests report proofs options) Faults Tests m n s t a b x y =
-      let bad = has_circuit texts _ x.1.0 y.1 x.1.1 in
-      absurd (bad_tests texts options.first n x.1.0 x.1.2.1 bad.1 b x.1.2.4 bad.3)
-  one_status (respond netlist tests out fault start) Tests Tests m n s t a b x y = x.0 ∙ sym y.0
-  one_status (respond netlist tests out fault start) Extra Tests m n s t a b x y =
-      absurd (bad_stated texts start m y.1.0 y.1.2.0 a x.1 y.1.1 y.1.2.2)
-  one_status (respond netlist tests out fault start) Tests Extra m n s t a b x y =
-      absurd (bad_stated texts start n x.1.0 x.1.2.0 b y.1 x.1.1 x.1.2.2)
-  one_status (check netlist tests report proofs start) Extra Proofs m n s t a b x y =
-      absurd (bad_stated texts start m y.1.0 y.1.2.1 a x.1 y.1.1 y.1.2.3)
-  one_status (check netlist tests report proofs start) Proofs Extra m n s t a b x y =
-      absurd (bad_stated texts start n x.1.0 x.1.2.1 b y.1 x.1.1 x.1.2.3)
-  one_status (asked.report netlist tests proofs out budget start) Extra Proofs m n s t a b x y =
-      absurd (bad_stated texts start m y.1.0 y.1.2.1 a x.1 y.1.1 y.1.2.3)
-  one_status (asked.report netlist tests proofs out budget start) Proofs Extra m n s t a b x y =
-      absurd (bad_stated texts start n x.1.0 x.1.2.1 b y.1 x.1.1 x.1.2.3)
-  one_status (diagnose netlist tests responses out) Tests Tests m n s t a b x y = x.0 ∙ sym y.0
-  one_status (diagnose netlist tests responses out) Tests Extra m n s t a b x y =
-      let bad = has_circuit texts _ y.1.0 x.1 y.1.1 in
-      absurd (never_both y.1.0 (texts Tests) y.1.2.0 bad.0 y.1.2.1 bad.1)
-  one_status (diagnose netlist tests responses out) Extra Tests m n s t a b x y =
-      let bad = has_circuit texts _ x.1.0 y.1 x.1.1 in
-      absurd (never_both x.1.0 (texts Tests) x.1.2.0 bad.0 x.1.2.1 bad.1)
-  one_status (compact netlist tests out) Tests Tests m n s t a b (inl x) (inl y) = x.0 ∙ sym y.0
-  one_status (compact netlist tests out) Tests Tests m n s t a b (inr x) (inr y) = x.0 ∙ sym y.0
-  one_status (compact netlist tests out) Tests Tests m n s t a b (inl x) (inr y) =
-      let bad = has_circuit texts _ y.1.0 x.1 y.1.1 in
-      absurd (malformed_or_many y.1.0 (texts Tests) bad.0 bad.1 y.1.2)
-  one_status (compact netlist tests out) Tests Tests m n s t a b (inr x) (inl y) =
-      let bad = has_circuit texts _ x.1.0 y.1 x.1.1 in
-      absurd (malformed_or_many x.1.0 (texts Tests) bad.0 bad.1 x.1.2)
-  one_status (check netlist tests report proofs start) Proofs Proofs m n s t a b x y = x.0 ∙ sym y.0
-  one_status (asked.report netlist tests proofs out budget start) Proofs Proofs m n s t a b x y = x.0 ∙ sym y.0
-  one_status (compact netlist tests out) Extra Tests m n s t a b x y = let none : None ≡ Some m = a in cc
-  one_status (compact netlist tests out) Tests Extra m n s t a b x y = let none : None ≡ Some n = b in cc
-  one_status (check netlist tests report proofs start) Faults Proofs m n s t a b x y = absurd x
-  one_status (check netlist tests report proofs start) Proofs Faults m n s t a b x y = absurd y
-  one_status (check netlist tests report proofs start) Tests Proofs m n s t a b x y = absurd x
-  one_status (check netlist tests report proofs start) Proofs Tests m n s t a b x y = absurd y
-  one_status (asked.report netlist tests proofs out budget start) Tests Proofs m n s t a b x y = absurd x
-  one_status (asked.report netlist tests proofs out budget start) Proofs Tests m n s t a b x y = absurd y
-  one_status (diagnose netlist tests responses out) Extra Extra m n s t a b x y = x.0 ∙ sym y.0
-  one_status job Extra Extra m n s t a b x y = x.0 ∙ sym y.0
-  one_status job p q m n s t a b x y = absurd (assumption)
+  pub one_status : (p q : InPort) (m n : List ℕ) (s t : ℕ) → input_name (asked_by j) p ≡ Some m
+      → input_name (asked_by j) q ≡ Some n → AreRefusedWith (asked_by j) texts p s
+      → AreRefusedWith (asked_by j) texts q t → s ≡ t
+  one_status Netlist q m n s t a b x y = of_netlist q s t x y
+  one_status p Netlist m n s t a b x y = sym (of_netlist p t s y x)
+  one_status Report q m n s t a b x y = absurd x
+  one_status p Report m n s t a b x y = absurd y
+  one_status Proofs Proofs m n s t a b x y = x.0 ∙ sym y.0
+  one_status Proofs q m n s t a b x y = of_denied j q n s t tt b x y
+  one_status p Proofs m n s t a b x y = sym (of_denied j p m t s tt a y x)
+  one_status p q m n s t a b x y = text_or_text p q m n s t tt tt a b x y (places_differ j p q)

@@ -17,7 +17,8 @@ use Rattle.ht_inputs.specs.Jobs.{may_state_start, place_of}
 
 -- ---- ports
 
-same_or_other : (p q : InPort) → (p ≡ q) ⊎ (p ≢ q)
+-- two ports are one or not
+pub same_or_other : (p q : InPort) → (p ≡ q) ⊎ (p ≢ q)
 same_or_other Netlist Netlist = inl refl
 same_or_other Tests Tests = inl refl
 same_or_other Report Report = inl refl
@@ -37,7 +38,8 @@ place_differs is_start Extra Extra ne e = absurd (ne refl)
 place_differs true p q ne e = absurd (omega (arith, e))
 place_differs false p q ne e = absurd (omega (arith, e))
 
-order_differs : (job : Asked) (p q : InPort) → p ≢ q → order_of job p ≢ order_of job q
+-- two ports have two places in the order of reading
+pub order_differs : (job : Asked) (p q : InPort) → p ≢ q → order_of job p ≢ order_of job q
 order_differs job p q = place_differs (may_state_start job) p q
 
 -- ---- calls that read
@@ -179,9 +181,10 @@ module _ {job : Asked} {basis : JobBasis} {place : ℕ} {a m : DeskView} (h : Ha
 
     -- ---- a file that ends the run
 
-    refuses : (e : RunError) → (refused_port job e ≡ Some port) × WasRead port name (IsRefusedFor job basis e) m
+    refuses : (order_of job Tests ≤ order_of job port → HasFault job basis.circuit) → (e : RunError)
+        → (refused_port job e ≡ Some port) × WasRead port name (IsRefusedFor job basis e) m
         → RefusesInput job e a b
-    refuses e refused = record {
+    refuses fault e refused = record {
       basis = basis;
       port = port;
       name = name;
@@ -190,11 +193,13 @@ module _ {job : Asked} {basis : JobBasis} {place : ℕ} {a m : DeskView} (h : Ha
       circuit = λ some. h.netlist (omega (arith, some, at));
       stated = h.stated;
       before = λ p before. h.accepts p (omega (arith, before, at));
+      fault = fault;
       refused = read_before h.reads refused.1;
       unread = λ p after. unread_at p (omega (arith, after, at));
     }
 
-    stops_reading : (port ≡ Tests → HasFault job basis.circuit) → (e : RunError) → ReadStops job basis port name m b e
+    stops_reading : (order_of job Tests ≤ order_of job port → HasFault job basis.circuit) → (e : RunError)
+        → ReadStops job basis port name m b e
         → StopsReading job a b e
     unfolding refuses
     stops_reading fault Usage stops = absurd stops
@@ -206,7 +211,7 @@ module _ {job : Asked} {basis : JobBasis} {place : ℕ} {a m : DeskView} (h : Ha
       reads = is;
       circuit = λ some. h.netlist (omega (arith, some, at));
       stated = h.stated;
-      fault = fault;
+      fault = λ same. fault (omega (arith, ap (order_of job) same));
       before = λ p before. h.accepts p (omega (arith, before, at));
       lacks = λ steady holds. stops.lacks (subst IsTrue (sym h.reads.after.steady) steady)
           (holds.0, ap (λ f. f name) h.reads.file ∙ holds.1);
@@ -215,12 +220,12 @@ module _ {job : Asked} {basis : JobBasis} {place : ℕ} {a m : DeskView} (h : Ha
     }
     stops_reading fault WriteFault stops = absurd stops
     stops_reading fault NoMemory stops = tt
-    stops_reading fault (BadTests line) stops = (refuses (BadTests line) (stops.0, stops.1), stops.2)
     stops_reading fault (NoSuchFault faults) stops = let none : None ≡ Some port = stops.0 in cc
-    stops_reading fault e stops = refuses e stops
+    stops_reading fault e stops = refuses fault e stops
 
     -- if reading the next file in the order ends the run, the reading of the job ends for that cause
-    pub stops_there : (port ≡ Tests → HasFault job basis.circuit) → (e : RunError) → ReadStops job basis port name m b e
+    pub stops_there : (order_of job Tests ≤ order_of job port → HasFault job basis.circuit) → (e : RunError)
+        → ReadStops job basis port name m b e
         → EndsReading job a b e
     stops_there fault e stops = record {
       reads = reads_then h.reads (only_reads call);
@@ -288,9 +293,9 @@ pub tests_stop : (job : Asked) (basis : JobBasis) (most : ℕ) (name : List ℕ)
     → ((line : ℕ) → refused_port job (BadTests line) ≡ Some Tests)
     → ((line : ℕ) (text : List ℕ) → line ≤ most → IsMalformedTest basis.circuit text line
     → IsRefusedFor job basis (BadTests line) text)
-    → HasFault job basis.circuit → (e : RunError) → TestsStop basis.circuit most name a b e → ReadStops job basis Tests name a b e
-tests_stop job basis most name a b at refuses fault ReadFault s = s
-tests_stop job basis most name a b at refuses fault NoMemory s = tt
-tests_stop job basis most name a b at refuses fault (BadTests line) s =
-    (at line, read_so (IsRefusedFor job basis (BadTests line)) (λ text. refuses line text s.1) s.0, fault)
-tests_stop job basis most name a b at refuses fault e s = absurd s
+    → (e : RunError) → TestsStop basis.circuit most name a b e → ReadStops job basis Tests name a b e
+tests_stop job basis most name a b at refuses ReadFault s = s
+tests_stop job basis most name a b at refuses NoMemory s = tt
+tests_stop job basis most name a b at refuses (BadTests line) s =
+    (at line, read_so (IsRefusedFor job basis (BadTests line)) (λ text. refuses line text s.1) s.0)
+tests_stop job basis most name a b at refuses e s = absurd s

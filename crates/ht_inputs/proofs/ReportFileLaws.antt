@@ -1,12 +1,13 @@
 -- The first trouble of a report that is read line by line.
-use Rattle.std.proofs.Common.{◌≡◌, ◌⊎◌, ◌^◌, inl, inr, ℕ, zero, suc, ◌+◌, ◌-◌, ◌<◌, ◌≤◌, List, [], ◌∷◌, ◌++◌, Bool, true, false, length, take, get_or, Some, refl, sym, ◌∙◌, ap, subst, arith, Option}
-use Rattle.std.specs.Prelude.{if◌then◌else◌}
+use Rattle.std.proofs.Common.{◌≡◌, ◌⊎◌, ◌^◌, inl, inr, ℕ, zero, suc, ◌+◌, ◌-◌, ◌<◌, ◌≤◌, List, [], ◌∷◌, ◌++◌, Bool, true, false, length, take, get_or, Some, refl, sym, ◌∙◌, ap, subst, arith}
+use Rattle.std.specs.Prelude.{None, if◌then◌else◌}
 use Rattle.std.proofs.lemmas.Bool.{cases_lt}
 use Rattle.std.proofs.lemmas.List.{length-append}
 use Rattle.std.proofs.Math.Seq.{get_or-append_seam}
 use Rattle.ht_inputs.proofs.Common.{AreClasses, AreFine, Denied, DeskView, HasFront, HasLines, HasLongLine, IsFirst}
 use Rattle.ht_inputs.proofs.Common.{IsRefusedFor, JobBasis, JudgeError, LinesStop, ReadStops, ReportIsRead, RunError}
-use Rattle.ht_inputs.proofs.Common.{Said, StandsForFile, StandsForReport, StopsAtLine, Tern, WasRead, check}
+use Rattle.ht_inputs.proofs.Common.{Said, StandsForFile, StandsForReport, StopsAtLine, Tern, WasRead, Asked}
+use Rattle.ht_inputs.specs.Jobs.{judges}
 use Rattle.ht_inputs.proofs.Common.{judged_error_of, lines_of}
 use Rattle.ht_ports.specs.declared.ports.InPort.TheVariants as in_port
 use Rattle.ht_net.specs.Circuit.Netlist.{Netlist, IsCircuit}
@@ -74,7 +75,8 @@ module _ (v : ReportJudgeView) (basis : JobBasis) where
       none (same_circuit (λ c r. IsReportFront c r (before ++ line ∷ [])) h.circuit h.representatives
       (reading_is_front v.circuit v.representatives (before ++ line ∷ []) h.judges.at h.judges.read))
   judged_is_fine before line h (Denied (Report number)) (is, inr contradicts) =
-      same_circuit (λ c r. ¬ ContradictsTests c r basis.content.start basis.content.list (before ++ line ∷ [])) h.circuit h.representatives
+      same_circuit (λ c r. ¬ ContradictsTests c r basis.content.start basis.content.list
+      (before ++ line ∷ [])) h.circuit h.representatives
       (contradicts_nothing v basis.content.start basis.content.list (before ++ line ∷ [])
       (subst IsCircuit (sym h.circuit) h.well_formed) h.judges) contradicts
   judged_is_fine before line h error wrong = wrong
@@ -86,7 +88,8 @@ module _ (v : ReportJudgeView) (basis : JobBasis) where
   denied_is_wrong before line h (judge.Denied (Report number)) denied = inr (
     denied.0,
     same_circuit (λ c r. (¬ IsReportFront c r (before ++ line ∷ []))
-        ⊎ ContradictsTests c r basis.content.start basis.content.list (before ++ line ∷ [])) h.circuit h.representatives denied.1,
+        ⊎ ContradictsTests c r basis.content.start basis.content.list
+        (before ++ line ∷ [])) h.circuit h.representatives denied.1,
   )
   denied_is_wrong before line h judge.NoMemory denied = inl refl
   denied_is_wrong before line h e denied = absurd denied
@@ -188,16 +191,17 @@ module _ (basis : JobBasis) (text : List ℕ) (is : IsCircuit basis.circuit) whe
 
 -- ---- why reading a report ends the run
 
-module _ (netlist tests report proofs : List ℕ) (start : Option (List ℕ)) (name : List ℕ) (basis : JobBasis)
+module _ (job : Asked) (judged : judges job.command ≡ true) (name : List ℕ) (basis : JobBasis)
     (is : IsCircuit basis.circuit) (a b : DeskView)
   where
     abbrev Stops : RunError → Type 0
-    Stops = ReadStops (check netlist tests report proofs start) basis in_port.Report name a b
+    Stops = ReadStops job basis in_port.Report name a b
 
     refuses : (number : ℕ) (IsSo : List ℕ → Type 0) → ((text : List ℕ) → IsSo text
-        → IsRefusedFor (check netlist tests report proofs start) basis (Denied (Report number)) text)
+        → IsRefusedFor job basis (Denied (Report number)) text)
         → WasRead in_port.Report name IsSo a → Stops (Denied (Report number))
-    refuses number IsSo so read = (refl, read_so _ so read)
+    refuses number IsSo so read =
+        (ap (λ (b : Bool). if b then Some in_port.Report else None) judged, read_so _ so read)
 
     -- what stops the lines of a report is why reading the file ends the run
     pub report_stops : {most : ℕ} {e : RunError} → AreClasses basis.circuit basis.representatives
@@ -228,7 +232,8 @@ module _ (netlist tests report proofs : List ℕ) (start : Option (List ℕ)) (n
 
 -- a report that the judge took to its end, true of the tests, is read, with its budget and verdicts
 pub report_is_read : (v : ReportJudgeView) (basis : JobBasis) (name : List ℕ) (a : DeskView)
-    → (read : StandsForFile (StandsForReport v basis) (IsWrongInReport basis) (2 ^ 64 - 1) in_port.Report name a) (budget : ℕ)
+    → (read : StandsForFile (StandsForReport v basis) (IsWrongInReport basis) (2 ^ 64 - 1) in_port.Report name a)
+    (budget : ℕ)
     (saids : List Said) → basis.content.budget ≡ budget → basis.content.saids ≡ saids
     → IsTrueReport v.circuit v.representatives basis.content.start basis.content.list read.lines budget saids
     → ReportIsRead basis name a

@@ -1,6 +1,6 @@
 -- The tests and the responses: rows of values, one for each line.
 use Rattle.std.proofs.Common.{◌≡◌, inl, inr, ℕ, ◌+◌, ◌-◌, ◌<◌, ◌≤◌, ◌^◌, Bool, List, [], ◌∷◌, ◌++◌, length, map, take, get_or, refl, sym, ◌∙◌, ap, subst, arith}
-use Rattle.std.specs.Prelude.{All, IfOk, Result, Ok, Err}
+use Rattle.std.specs.Prelude.{All, IfOk, None, Result, Ok, Err, Some, false, if◌then◌else◌}
 use Rattle.std.proofs.lemmas.Bool.{cases_lt}
 use Rattle.std.proofs.lemmas.List.{length-append, length-map, length-take-le}
 use Rattle.std.proofs.Math.ListN.{replicate, length-replicate}
@@ -8,7 +8,8 @@ use Rattle.std.proofs.Math.Seq.{take-append_seam}
 use Rattle.ht_inputs.proofs.Common.{AreFine, BadResponses, BadTests, DeskView, HasFront, HasLines, HasLongLine}
 use Rattle.ht_inputs.proofs.Common.{IsMalformedResponse, IsMalformedTest, JobBasis, LinesStop}
 use Rattle.ht_inputs.proofs.Common.{ObservationView, ReadStops, Rows, RunError, StandsForFile, StandsForResponses}
-use Rattle.ht_inputs.proofs.Common.{StandsForTests, Tern, TestsStop, WasRead, diagnose, lines_of, row_text}
+use Rattle.ht_inputs.proofs.Common.{Asked, StandsForTests, Tern, TestsStop, WasRead, lines_of, refused_port, row_text}
+use Rattle.ht_inputs.specs.Jobs.{may_state_start}
 use Rattle.ht_ports.specs.declared.ports.InPort.TheVariants as in_port
 use Rattle.ht_net.specs.Circuit.Netlist.{max_inputs, max_nets, no_net}
 use Rattle.ht_texts.specs.Tests.{IsTextOf, IsWrongLine, bit_code}
@@ -202,28 +203,35 @@ module _ (basis : JobBasis) (text : List ℕ) (before : List (List ℕ)) (fine :
     awaited = omega (arith, fewer);
   })))
 
-module _ (netlist tests responses out name : List ℕ) (basis : JobBasis) (a b : DeskView) where
-  abbrev Stops : RunError → Type 0
-  Stops = ReadStops (diagnose netlist tests responses out) basis in_port.Extra name a b
+module _ (job : Asked) (states_none : may_state_start job ≡ false) (name : List ℕ) (basis : JobBasis) (a b : DeskView)
+  where
+    abbrev Stops : RunError → Type 0
+    Stops = ReadStops job basis in_port.Extra name a b
 
-  -- what stops the lines of responses is why reading the file ends the run of `diagnose`
-  pub responses_stop : {most : ℕ} {e : RunError} → length basis.circuit.outputs ≤ max_nets
-      → LinesStop (IsNoRowLine basis) BadResponses max_nets most in_port.Extra name a b e → Stops e
-  responses_stop few stops = lines_stop Stops (λ fault. fault) tt
-      (λ e s. subst Stops (sym s.wrong.0)
-      (refl, read_so _ (λ text front. bad_row basis text s.before s.fine s.line e front s.wrong) s.read))
-      (λ line s. subst (λ (n : ℕ). Stops (BadResponses n)) (sym s.line_is)
-      (refl, read_so _ (λ text long. long_row basis text s.before s.fine few long) s.read)) stops
+    refuses_rows : (line : ℕ) → refused_port job (BadResponses line) ≡ Some in_port.Extra
+    refuses_rows line = ap (λ (is_start : Bool). if is_start then None else Some in_port.Extra) states_none
 
-  -- the responses end before there is one for each vector
-  pub responses_end : {Stands : List (List ℕ) → Type 0} {v : ObservationView}
-      (read : StandsForFile Stands (IsNoRowLine basis) (2 ^ 64 - 1) in_port.Extra name a)
-      → StandsForResponses v basis read.lines → length v.rows < length basis.content.list
-      → Stops (BadResponses (length v.rows + 1))
-  responses_end {v = v} read stands fewer =
-      let count : length read.lines ≡ length v.rows = ap length stands.lines_are ∙ length-map v.rows row_text in
-      subst (λ (n : ℕ). Stops (BadResponses (n + 1))) count
-      (refl, read_so _ (λ text has. missing_row basis text read.lines read.fine has (omega (arith, count, fewer))) (whole_file read))
+    -- what stops the lines of responses is why reading the file ends the run
+    pub responses_stop : {most : ℕ} {e : RunError} → length basis.circuit.outputs ≤ max_nets
+        → LinesStop (IsNoRowLine basis) BadResponses max_nets most in_port.Extra name a b e → Stops e
+    responses_stop few stops = lines_stop Stops (λ fault. fault) tt
+        (λ e s. subst Stops (sym s.wrong.0)
+        (refuses_rows (length s.before + 1), read_so _
+        (λ text front. bad_row basis text s.before s.fine s.line e front s.wrong) s.read))
+        (λ line s. subst (λ (n : ℕ). Stops (BadResponses n)) (sym s.line_is)
+        (refuses_rows (length s.before + 1), read_so _
+        (λ text long. long_row basis text s.before s.fine few long) s.read)) stops
+
+    -- the responses end before there is one for each vector
+    pub responses_end : {Stands : List (List ℕ) → Type 0} {v : ObservationView}
+        (read : StandsForFile Stands (IsNoRowLine basis) (2 ^ 64 - 1) in_port.Extra name a)
+        → StandsForResponses v basis read.lines → length v.rows < length basis.content.list
+        → Stops (BadResponses (length v.rows + 1))
+    responses_end {v = v} read stands fewer =
+        let count : length read.lines ≡ length v.rows = ap length stands.lines_are ∙ length-map v.rows row_text in
+        subst (λ (n : ℕ). Stops (BadResponses (n + 1))) count
+            (refuses_rows (length read.lines + 1), read_so _
+        (λ text has. missing_row basis text read.lines read.fine has (omega (arith, count, fewer))) (whole_file read))
 
 -- a basis for so many values in each row, and so many vectors
 abbrev pub basis_for : ℕ → ℕ → JobBasis

@@ -5,11 +5,11 @@ use Rattle.std.specs.declared.alloc.Global.{Global}
 use Rattle.std.proofs.lemmas.Bool.{cases_eq, cases_lt}
 use Rattle.std.proofs.lemmas.Bool.Decides.{nat_tests}
 use Rattle.std.proofs.lemmas.List.{length-take-le}
-use Rattle.ht_asked.specs.Asked as asked
 use Rattle.ht_inputs.proofs.Common.{AreFine, Asked, DeskView, EndsReading, Extra, HasFront, HasLines, HasLongLine}
 use Rattle.ht_inputs.proofs.Common.{HasReadTo, InCall, IsTooLong, JobBasis, LinesStop, ReadStops, RunError, SaysBasis}
-use Rattle.ht_inputs.proofs.Common.{Tern, WasRead, check, gen, input_name, lines_of, max_text_bytes, order_of}
-use Rattle.ht_inputs.proofs.Common.{refused_port, respond, sim, without_cr}
+use Rattle.ht_inputs.proofs.Common.{Tern, WasRead, input_name, lines_of, max_text_bytes, order_of}
+use Rattle.ht_inputs.proofs.Common.{refused_port, without_cr}
+use Rattle.ht_inputs.specs.Inputs.{SaysExtra}
 use Rattle.ht_ports.specs.declared.ports.InPort.TheVariants.{Tests}
 use Rattle.ht_ports.specs.LineRule.{first_piece}
 use Rattle.ht_ports.proofs.PieceLaws.{length-without_cr}
@@ -114,7 +114,8 @@ module _ (basis : JobBasis) (text : List ℕ) (before : List (List ℕ)) (fine :
       → IsNoStartLine basis before line error → IsBadAt (length before + 1)
   bad_start line error front wrong =
       bad_at (shorter before line text front) (front_is before line text front).0 (λ first start is.
-      let some = wrong.1 start (subst (λ (l : List ℕ). IsFirstLine l start) (first_is before line text front first) is) in
+      let some = wrong.1 start (subst (λ (l : List ℕ). IsFirstLine l start)
+      (first_is before line text front first) is) in
       omega (arith, some, first))
 
   -- after fine lines, one that is too long for a start is the first malformed one
@@ -136,12 +137,7 @@ refuses_start job may line = ap (λ (is_start : Bool). if is_start then Some Ext
 
 says_start : (job : Asked) (basis : JobBasis) (text : List ℕ) → may_state_start job ≡ true
     → IsStartText (length basis.circuit.dffs) text basis.content.start → SaysBasis job basis Extra text
-says_start (sim netlist tests report start) basis text may is = is
-says_start (gen netlist tests report proofs options) basis text may is = is
-says_start (check netlist tests report proofs start) basis text may is = is
-says_start (respond netlist tests out fault start) basis text may is = is
-says_start (asked.report netlist tests proofs out budget start) basis text may is = is
-says_start job basis text may is = cc
+says_start job basis text may is = subst (λ (b : Bool). SaysExtra b basis text) (sym may) is
 
 module _ (job : Asked) (may : may_state_start job ≡ true) (basis : JobBasis) (name : List ℕ) (a b : DeskView) where
   abbrev Stops : RunError → Type 0
@@ -214,7 +210,9 @@ module _ {job : Asked} {basis : JobBasis} {first old new : DeskView} (may : may_
     start_step width of_width (Err e) read = tt
 
     -- an error in reading the start after the netlist ends the reading of the job
-    pub step_stops : (result : Result (Vec Tern Global) RunError) → IfErr result (ReadStops job basis Extra name old new)
+    pub step_stops : (result : Result (Vec Tern Global) RunError) → IfErr result
+        (ReadStops job basis Extra name old new)
         → IfErr result (EndsReading job first new)
     step_stops (Ok start) stops = tt
-    step_stops (Err e) stops = stops_there before (at_one job may) reads call (λ is. let same : Extra ≡ Tests = is in cc) e stops
+    step_stops (Err e) stops = stops_there before (at_one job may) reads call
+        (λ late. absurd (omega (arith, late, ap (place_of Tests) may, at_one job may))) e stops

@@ -1,5 +1,5 @@
 -- What the files that a job reads say.
-use Rattle.std.specs.Prelude.{◌≡◌, ◌≢◌, ◌<◌, ◌≤◌, ℕ, Bool, List, length, Option, Some, None, IsSome}
+use Rattle.std.specs.Prelude.{◌≡◌, ◌≢◌, ◌<◌, ◌≤◌, ℕ, Bool, true, false, List, length, Option, Some, None, IsSome}
 use Rattle.ht_ports.specs.Desk.{DeskView}
 use Rattle.ht_ports.specs.declared.ports.InPort.{InPort}
 use Rattle.ht_ports.specs.declared.ports.InPort.TheVariants.{Netlist, Tests, Report, Proofs, Faults, Extra}
@@ -18,9 +18,8 @@ use Rattle.ht_dictionary.specs.ResponseTexts.{IsResponseText}
 use Rattle.ht_faults.specs.Sites.{faults_of}
 use Rattle.ht_faults.specs.Classes.{AreClasses}
 use Rattle.ht_valid.specs.ValidFiles.{AgreesWithTests, Content, IsJustified, IsOwn}
-use Rattle.ht_asked.specs.Asked as asked
-use Rattle.ht_asked.specs.Asked.{Asked, check, compact, diagnose, respond}
-use Rattle.ht_inputs.specs.Jobs.{input_name, order_of, start_name}
+use Rattle.ht_asked.specs.Asked.{Asked, Kind, report}
+use Rattle.ht_inputs.specs.Jobs.{input_name, judges, may_state_start, order_of, start_name, takes_few}
 
 -- ---- one file
 
@@ -81,23 +80,36 @@ pub record AreGoodProofs (c : net.Netlist) (representatives : List ℕ) (content
   pub proved : IsProofText content.entries text
   pub justified : IsJustified c representatives content
 
+-- what the netlist says: the circuit and, to a job that judges proofs, the classes of its faults
+abbrev pub SaysCircuit : Bool → JobBasis → List ℕ → Type 0
+SaysCircuit true basis text = IsGoodNetlist text basis.circuit × AreClasses basis.circuit basis.representatives
+SaysCircuit false basis text = IsGoodNetlist text basis.circuit
+
+-- what the tests say: the vectors, which may be few or any
+abbrev pub SaysVectors : Bool → JobBasis → List ℕ → Type 0
+SaysVectors true basis text = IsTestTextToCompact basis.circuit text basis.content.list
+SaysVectors false basis text = IsTestText basis.circuit text basis.content.list
+
+-- what a further text says: the start, or else the responses
+abbrev pub SaysExtra : Bool → JobBasis → List ℕ → Type 0
+SaysExtra true basis text = IsStartText (length basis.circuit.dffs) text basis.content.start
+SaysExtra false basis text =
+    IsResponseText (length basis.circuit.outputs) (length basis.content.list) text basis.rows
+
+-- what the proofs say: the entries, and where `report` reads them it has the budget from its words
+abbrev pub SaysProofs : Kind → ℕ → JobBasis → List ℕ → Type 0
+SaysProofs report budget basis text =
+    (basis.content.budget ≡ budget) × AreGoodProofs basis.circuit basis.representatives basis.content text
+SaysProofs kind budget basis text = AreGoodProofs basis.circuit basis.representatives basis.content text
+
 -- The text of a job's file says its part of the basis.
 abbrev pub SaysBasis : Asked → JobBasis → InPort → List ℕ → Type 0
-SaysBasis (check netlist tests report proofs start) basis Netlist text =
-    IsGoodNetlist text basis.circuit × AreClasses basis.circuit basis.representatives
-SaysBasis (asked.report netlist tests proofs out budget start) basis Netlist text =
-    IsGoodNetlist text basis.circuit × AreClasses basis.circuit basis.representatives
-SaysBasis job basis Netlist text = IsGoodNetlist text basis.circuit
-SaysBasis (compact netlist tests out) basis Tests text = IsTestTextToCompact basis.circuit text basis.content.list
-SaysBasis job basis Tests text = IsTestText basis.circuit text basis.content.list
-SaysBasis (diagnose netlist tests responses out) basis Extra text =
-    IsResponseText (length basis.circuit.outputs) (length basis.content.list) text basis.rows
-SaysBasis job basis Extra text = IsStartText (length basis.circuit.dffs) text basis.content.start
+SaysBasis job basis Netlist text = SaysCircuit (judges job.command) basis text
+SaysBasis job basis Tests text = SaysVectors (takes_few job.command) basis text
+SaysBasis job basis Extra text = SaysExtra (may_state_start job) basis text
 SaysBasis job basis Faults text = IsFaultListText (length (faults_of basis.circuit)) text basis.chosen
 SaysBasis job basis Report text = IsGoodReport basis.circuit basis.representatives basis.content text
-SaysBasis (asked.report netlist tests proofs out budget start) basis Proofs text =
-    (basis.content.budget ≡ budget) × AreGoodProofs basis.circuit basis.representatives basis.content text
-SaysBasis job basis Proofs text = AreGoodProofs basis.circuit basis.representatives basis.content text
+SaysBasis job basis Proofs text = SaysProofs job.command job.numbers.budget basis text
 
 -- the number of a fault, from 1, is that of one of the circuit, where one is given
 abbrev pub IsListed : net.Netlist → Option ℕ → Type 0
@@ -106,8 +118,7 @@ IsListed c (Some number) = number ≤ length (faults_of c)
 
 -- the fault that a job names is one of the circuit
 abbrev pub HasFault : Asked → net.Netlist → Type 0
-HasFault (respond netlist tests out fault start) c = IsListed c fault
-HasFault job c = Unit {0}
+HasFault job c = IsListed c job.numbers.fault
 
 -- The job's file of the port, where it reads one, was read and says its part of the basis.
 abbrev pub AcceptsFile : Asked → JobBasis → InPort → DeskView → Type 0

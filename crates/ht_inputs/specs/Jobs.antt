@@ -3,52 +3,36 @@ use Rattle.std.specs.Prelude.{◌≡◌, ℕ, Bool, true, false, List, Option, S
 use Rattle.ht_ports.specs.Desk.{DeskView, Holds}
 use Rattle.ht_ports.specs.declared.ports.InPort.{InPort}
 use Rattle.ht_ports.specs.declared.ports.InPort.TheVariants as in_port
-use Rattle.ht_asked.specs.Asked as asked
-use Rattle.ht_asked.specs.Asked.{Asked, sim, gen, check, norm, compact, diagnose, uninit, sync, respond}
+use Rattle.ht_asked.specs.Asked.{Asked, Kind, check, compact, report}
+use Rattle.ht_asked.specs.Commands.{takes_start}
 
 -- the file that the job reads from the port
 abbrev pub input_name : Asked → InPort → Option (List ℕ)
-input_name (sim netlist tests report start) in_port.Netlist = Some netlist
-input_name (sim netlist tests report start) in_port.Extra = start
-input_name (sim netlist tests report start) in_port.Tests = Some tests
-input_name (gen netlist tests report proofs options) in_port.Netlist = Some netlist
-input_name (gen netlist tests report proofs options) in_port.Extra = options.start
-input_name (gen netlist tests report proofs options) in_port.Tests = options.first
-input_name (gen netlist tests report proofs options) in_port.Faults = options.faults
-input_name (check netlist tests report proofs start) in_port.Netlist = Some netlist
-input_name (check netlist tests report proofs start) in_port.Extra = start
-input_name (check netlist tests report proofs start) in_port.Tests = Some tests
-input_name (check netlist tests report proofs start) in_port.Report = Some report
-input_name (check netlist tests report proofs start) in_port.Proofs = Some proofs
-input_name (norm netlist out) in_port.Netlist = Some netlist
-input_name (compact netlist tests out) in_port.Netlist = Some netlist
-input_name (compact netlist tests out) in_port.Tests = Some tests
-input_name (diagnose netlist tests responses out) in_port.Netlist = Some netlist
-input_name (diagnose netlist tests responses out) in_port.Tests = Some tests
-input_name (diagnose netlist tests responses out) in_port.Extra = Some responses
-input_name (uninit netlist out budget) in_port.Netlist = Some netlist
-input_name (sync netlist tests out budget) in_port.Netlist = Some netlist
-input_name (respond netlist tests out fault start) in_port.Netlist = Some netlist
-input_name (respond netlist tests out fault start) in_port.Extra = start
-input_name (respond netlist tests out fault start) in_port.Tests = Some tests
-input_name (asked.report netlist tests proofs out budget start) in_port.Netlist = Some netlist
-input_name (asked.report netlist tests proofs out budget start) in_port.Extra = start
-input_name (asked.report netlist tests proofs out budget start) in_port.Tests = Some tests
-input_name (asked.report netlist tests proofs out budget start) in_port.Proofs = Some proofs
-input_name _ _ = None
+input_name job in_port.Netlist = job.reads.netlist
+input_name job in_port.Tests = job.reads.tests
+input_name job in_port.Report = job.reads.report
+input_name job in_port.Proofs = job.reads.proofs
+input_name job in_port.Faults = job.reads.faults
+input_name job in_port.Extra = job.reads.extra
 
 -- the job may state a start, which it reads from the port Extra
 abbrev pub may_state_start : Asked → Bool
-may_state_start (sim netlist tests report start) = true
-may_state_start (gen netlist tests report proofs options) = true
-may_state_start (check netlist tests report proofs start) = true
-may_state_start (respond netlist tests out fault start) = true
-may_state_start (asked.report netlist tests proofs out budget start) = true
-may_state_start _ = false
+may_state_start job = takes_start job.command
 
 -- the file of the start, where the job states one
 abbrev pub start_name : Asked → Option (List ℕ)
-start_name job = if may_state_start job then input_name job in_port.Extra else None
+start_name job = if may_state_start job then job.reads.extra else None
+
+-- the command judges proofs, by the tests and, if it reads one, by the report before them
+abbrev pub judges : Kind → Bool
+judges check = true
+judges report = true
+judges kind = false
+
+-- the command takes only so many vectors as are compacted
+abbrev pub takes_few : Kind → Bool
+takes_few compact = true
+takes_few kind = false
 
 -- the place of a port in the order of reading: what the port Extra has is read before the tests where it is a start, and
 -- after them else

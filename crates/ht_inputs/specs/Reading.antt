@@ -21,15 +21,12 @@ pub record IsReadFault (name : List ℕ) (old new : DeskView) : Type 0 where
   pub rose : Rose old.in_faults new.in_faults
   pub lacks : IsTrue old.steady → ¬ Holds old name
 
--- why reading a job's file ends the run: the desk fails, memory runs out, or the text is refused. The tests are read only
--- where the fault that the job names is one of the circuit.
+-- why reading a job's file ends the run: the desk fails, memory runs out, or the text is refused
 abbrev pub ReadStops : Asked → JobBasis → InPort → List ℕ → DeskView → DeskView → RunError → Type 0
 ReadStops job basis port name old new Usage = ⊥
 ReadStops job basis port name old new ReadFault = IsReadFault name old new
 ReadStops job basis port name old new WriteFault = ⊥
 ReadStops job basis port name old new NoMemory = Unit {0}
-ReadStops job basis port name old new (BadTests line) = (refused_port job (BadTests line) ≡ Some port)
-    × WasRead port name (IsRefusedFor job basis (BadTests line)) old × HasFault job basis.circuit
 ReadStops job basis port name old new error =
     (refused_port job error ≡ Some port) × WasRead port name (IsRefusedFor job basis error) old
 
@@ -83,18 +80,16 @@ pub record FailsToRead (job : Asked) (old new : DeskView) : Type 0 where
   pub before : AcceptsBefore job basis port old
   pub fault : port ≡ Tests → HasFault job basis.circuit
   pub lacks : IsTrue old.steady → ¬ Holds old name
-  pub held : IsTrue old.steady → (p : InPort) (n : List ℕ) → order_of job p < order_of job port → input_name job p ≡ Some n
+  pub held : IsTrue old.steady → (p : InPort) (n : List ℕ) → order_of job p < order_of job port
+      → input_name job p ≡ Some n
       → Holds old n
 
--- Why reading the files of a job ends its run by an error. Memory may run out at any time. Tests are refused only where
--- the fault that the job names is one of the circuit.
+-- Why reading the files of a job ends its run by an error. Memory may run out at any time.
 abbrev pub StopsReading : Asked → DeskView → DeskView → RunError → Type 0
 StopsReading job old new Usage = ⊥
 StopsReading job old new ReadFault = FailsToRead job old new
 StopsReading job old new WriteFault = ⊥
 StopsReading job old new NoMemory = Unit {0}
-StopsReading job old new (BadTests line) = (refuses : RefusesInput job (BadTests line) old new)
-    × HasFault job refuses.basis.circuit
 StopsReading job old new (NoSuchFault faults) = LacksFault job faults old new
 StopsReading job old new error = RefusesInput job error old new
 

@@ -1,5 +1,5 @@
 -- Which texts a job refuses, and for which error.
-use Rattle.std.specs.Prelude.{◌≡◌, ◌≢◌, ◌⊎◌, ◌<◌, ◌≤◌, ℕ, List, [], Bool, length, Option, Some, None, if◌then◌else◌}
+use Rattle.std.specs.Prelude.{◌≡◌, ◌≢◌, ◌<◌, ◌≤◌, ℕ, List, [], Bool, true, false, length, Option, Some, None, if◌then◌else◌}
 use Rattle.ht_ports.specs.Desk.{DeskView}
 use Rattle.ht_ports.specs.declared.ports.InPort.{InPort}
 use Rattle.ht_ports.specs.declared.ports.InPort.TheVariants.{Netlist, Tests, Report, Proofs, Faults, Extra}
@@ -19,13 +19,14 @@ use Rattle.ht_faults.specs.Classes.{AreClasses}
 use Rattle.ht_valid.specs.ValidFiles.{AreValidFiles, Content}
 use Rattle.ht_texts.specs.WrongLines.{IsFirst}
 use Rattle.ht_valid.specs.FirstTrouble.{EndsWrongEntry, IsEvidence, IsFaultTrouble, IsFirstFault, IsFirstProofLine, IsReportTrouble}
+use Rattle.ht_valid.specs.declared.trouble.Trouble.{Trouble}
 use Rattle.ht_valid.specs.declared.trouble.Trouble.TheVariants as trouble
-use Rattle.ht_asked.specs.Asked as asked
-use Rattle.ht_asked.specs.Asked.{Asked, sim, gen, check, compact, diagnose, respond}
+use Rattle.ht_asked.specs.Asked.{Asked, Kind, check, report}
 use Rattle.ht_inputs.specs.declared.run_error.RunError.{RunError}
 use Rattle.ht_inputs.specs.declared.run_error.RunError.TheVariants.{Denied, TooLong, Refused, BadStart, BadTests, TooManyVectors, BadResponses, NoMemory, NoSuchFault, BadFaults}
-use Rattle.ht_inputs.specs.Inputs.{AcceptsBefore, HasFault, HasNetlist, IsInput, IsListed, IsStated, IsUnread, JobBasis, AreGoodProofs, IsGoodNetlist, WasRead}
-use Rattle.ht_inputs.specs.Jobs.{input_name, may_state_start, order_of, start_name}
+use Rattle.ht_inputs.specs.Inputs.{AcceptsBefore, HasFault, HasNetlist, IsInput, IsStated, IsUnread, JobBasis, AreGoodProofs, IsGoodNetlist, SaysBasis, WasRead}
+use Rattle.ht_inputs.specs.Errors.{exit_status}
+use Rattle.ht_inputs.specs.Jobs.{input_name, judges, may_state_start, order_of, start_name, takes_few}
 
 -- ---- why a text is refused
 
@@ -36,26 +37,23 @@ pub record IsRefused (error : BenchError) (text : List ℕ) : Type 0 where
   pub none : (c : net.Netlist) → ¬ IsNetlistOf text c
   pub not_memory : error ≢ bench.NoMemory
 
+-- the port at which a trouble is found
+abbrev pub trouble_port : Trouble → InPort
+trouble_port (trouble.Tests line) = Tests
+trouble_port (trouble.Report line) = Report
+trouble_port (trouble.Proofs line) = Proofs
+trouble_port (trouble.Fault number) = Proofs
+
 -- the port whose text the job refuses by an error
 abbrev pub refused_port : Asked → RunError → Option InPort
 refused_port job TooLong = Some Netlist
 refused_port job (Refused error) = Some Netlist
 refused_port job (BadStart line) = if may_state_start job then Some Extra else None
+refused_port job (BadTests line) = if judges job.command then None else Some Tests
+refused_port job TooManyVectors = if takes_few job.command then Some Tests else None
+refused_port job (BadResponses line) = if may_state_start job then None else Some Extra
 refused_port job (BadFaults line) = Some Faults
-refused_port (sim netlist tests report start) (BadTests line) = Some Tests
-refused_port (gen netlist tests report proofs options) (BadTests line) = Some Tests
-refused_port (compact netlist tests out) (BadTests line) = Some Tests
-refused_port (compact netlist tests out) TooManyVectors = Some Tests
-refused_port (respond netlist tests out fault start) (BadTests line) = Some Tests
-refused_port (diagnose netlist tests responses out) (BadTests line) = Some Tests
-refused_port (diagnose netlist tests responses out) (BadResponses line) = Some Extra
-refused_port (check netlist tests report proofs start) (Denied (trouble.Tests line)) = Some Tests
-refused_port (check netlist tests report proofs start) (Denied (trouble.Report line)) = Some Report
-refused_port (check netlist tests report proofs start) (Denied (trouble.Proofs line)) = Some Proofs
-refused_port (check netlist tests report proofs start) (Denied (trouble.Fault number)) = Some Proofs
-refused_port (asked.report netlist tests proofs out budget start) (Denied (trouble.Tests line)) = Some Tests
-refused_port (asked.report netlist tests proofs out budget start) (Denied (trouble.Proofs line)) = Some Proofs
-refused_port (asked.report netlist tests proofs out budget start) (Denied (trouble.Fault number)) = Some Proofs
+refused_port job (Denied found) = if judges job.command then Some (trouble_port found) else None
 refused_port job error = None
 
 -- what the files say before the proofs are read
@@ -64,10 +62,19 @@ before_proofs content = record content { entries = [] }
 
 -- With a line of the proofs, after those before it, something is wrong with the entry of a number: by what the report
 -- says or, for `report`, by what the vectors show.
-abbrev pub IsTroubleOf : Asked → JobBasis → List (List ℕ) → List ℕ → ℕ → Type 0
-IsTroubleOf (asked.report netlist tests proofs out budget start) basis = EndsWrongEntry
+abbrev pub IsTroubleFor : Kind → ℕ → JobBasis → List (List ℕ) → List ℕ → ℕ → Type 0
+IsTroubleFor report budget basis = EndsWrongEntry
     (IsEvidence basis.circuit basis.representatives basis.content.start basis.content.list budget)
-IsTroubleOf job basis = IsFaultTrouble basis.circuit basis.representatives (before_proofs basis.content)
+IsTroubleFor kind budget basis = IsFaultTrouble basis.circuit basis.representatives (before_proofs basis.content)
+
+-- the same for the budget of a job
+abbrev pub IsTroubleOf : Asked → JobBasis → List (List ℕ) → List ℕ → ℕ → Type 0
+IsTroubleOf job = IsTroubleFor job.command job.numbers.budget
+
+-- the line of the tests is no vector; where few are taken, only their first lines are judged
+abbrev pub IsWrongTest : Bool → net.Netlist → List ℕ → ℕ → Type 0
+IsWrongTest true = IsMalformedEarly
+IsWrongTest false = IsMalformedTest
 
 -- The text of that port is refused: it has this first trouble, after texts that say the basis. `compact` judges
 -- tests by their first `MAX_COMPACTED` + 1 lines.
@@ -75,8 +82,7 @@ abbrev pub IsRefusedFor : Asked → JobBasis → RunError → List ℕ → Type 
 IsRefusedFor job basis TooLong text = max_netlist_bytes < length text
 IsRefusedFor job basis (Refused error) text = IsRefused error text
 IsRefusedFor job basis (BadStart line) text = IsMalformedStart (length basis.circuit.dffs) text line
-IsRefusedFor (compact netlist tests out) basis (BadTests line) text = IsMalformedEarly basis.circuit text line
-IsRefusedFor job basis (BadTests line) text = IsMalformedTest basis.circuit text line
+IsRefusedFor job basis (BadTests line) text = IsWrongTest (takes_few job.command) basis.circuit text line
 IsRefusedFor job basis TooManyVectors text = HasTooManyVectors basis.circuit text
 IsRefusedFor job basis (BadResponses line) text =
     IsMalformedResponse (length basis.circuit.outputs) (length basis.content.list) text line
@@ -89,7 +95,8 @@ IsRefusedFor job basis (Denied (trouble.Fault number)) text = IsFirstFault (IsTr
 IsRefusedFor job basis error text = ⊥
 
 -- The job refuses the text of a file for this error: the files before it say the basis, this one may be there, and
--- those after it weren't opened.
+-- those after it weren't opened. Tests, and what is read after them, are refused only where the circuit has the fault
+-- that the job names.
 pub record RefusesInput (job : Asked) (error : RunError) (old new : DeskView) : Type 0 where
   pub basis : JobBasis
   pub port : InPort
@@ -99,6 +106,7 @@ pub record RefusesInput (job : Asked) (error : RunError) (old new : DeskView) : 
   pub circuit : 0 < order_of job port → HasNetlist basis.circuit
   pub stated : IsStated job basis
   pub before : AcceptsBefore job basis port old
+  pub fault : order_of job Tests ≤ order_of job port → HasFault job basis.circuit
   pub refused : WasRead port name (IsRefusedFor job basis error) old
   pub unread : (p : InPort) → order_of job port < order_of job p → IsUnread p old new
 
@@ -111,8 +119,7 @@ IsAbove c (Some number) faults = (faults ≡ length (faults_of c)) × (faults < 
 
 -- so is the number of the fault that the job names
 abbrev pub NamesAbove : Asked → net.Netlist → ℕ → Type 0
-NamesAbove (respond netlist tests out number start) c faults = IsAbove c number faults
-NamesAbove job c faults = ⊥
+NamesAbove job c faults = IsAbove c job.numbers.fault faults
 
 -- why a number is no fault's
 abbrev pub FaultStops : net.Netlist → Option ℕ → RunError → Type 0
@@ -140,52 +147,47 @@ abbrev pub IsStartOf : Option (List ℕ) → net.Netlist → (InPort → List �
 IsStartOf (Some name) c texts start = IsStartText (length c.dffs) (texts Extra) start
 IsStartOf None c texts start = start ≡ unknown_state c
 
--- the vectors of the tests that a job names, or none where it names no tests
-abbrev pub AreTestsOf : Option (List ℕ) → net.Netlist → (InPort → List ℕ) → List (List Bool) → Type 0
-AreTestsOf (Some name) c texts list = IsTestText c (texts Tests) list
-AreTestsOf None c texts list = list ≡ []
-
 -- The tests and the proofs justify what some content says from the start, for this budget.
 abbrev pub JustifyReport : net.Netlist → List ℕ → List Tern → ℕ → List ℕ → List ℕ → Type 0
 JustifyReport c representatives start budget tests proofs = (content : Content) × (content.start ≡ start)
     × (content.budget ≡ budget) × IsTestText c tests content.list × AreGoodProofs c representatives content proofs
 
--- Of the texts up to this port a job refuses one, and then ends with this status: the netlist is that of no circuit;
--- the start is none; a line of the tests is no vector; the list of faults is none; the responses aren't a row for each
--- vector; the tests of `compact` are malformed early or too many; the files of `check` aren't valid for the start, or
--- those of `report` justify none.
+-- what a command that judges proofs looks for: the files of `check` are valid for the start, those of `report` justify
+-- one for its budget
+abbrev pub AreValidFor : Kind → ℕ → (InPort → List ℕ) → net.Netlist → List ℕ → List Tern → Type 0
+AreValidFor check budget texts c representatives start =
+    AreValidFiles c representatives start (texts Tests) (texts Report) (texts Proofs)
+AreValidFor report budget texts c representatives start =
+    JustifyReport c representatives start budget (texts Tests) (texts Proofs)
+AreValidFor kind budget texts c representatives start = Unit {0}
+
+-- A circuit, its classes and a start that the texts say, for which they aren't valid.
+abbrev pub AreDenied : Asked → (InPort → List ℕ) → Type 0
+AreDenied job texts = HasCircuit texts (λ c. (representatives : List ℕ) × (start : List Tern)
+    × AreClasses c representatives × IsStartOf (start_name job) c texts start
+    × (¬ AreValidFor job.command job.numbers.budget texts c representatives start))
+
+-- The text of a port is refused for an error, and the texts before it say a basis, of which the netlist says the
+-- circuit; the fault that the job names is one of it where the tests, or what comes after them, are refused.
+pub record IsRefusedText (job : Asked) (texts : InPort → List ℕ) (port : InPort) (status : ℕ) : Type 0 where
+  pub error : RunError
+  pub status_is : status ≡ exit_status error
+  pub at : refused_port job error ≡ Some port
+  pub basis : JobBasis
+  pub circuit : IsGoodNetlist (texts Netlist) basis.circuit
+  pub stated : IsStated job basis
+  pub before : (p : InPort) (name : List ℕ) → 0 < order_of job p → order_of job p < order_of job port
+      → input_name job p ≡ Some name → SaysBasis job basis p (texts p)
+  pub fault : order_of job Tests ≤ order_of job port → HasFault job basis.circuit
+  pub refused : IsRefusedFor job basis error (texts port)
+
+-- Of the texts up to this port a job refuses one, and then ends with this status: the netlist is that of no circuit; the
+-- files that it judges aren't valid, or justify nothing; or the text has a first trouble.
 abbrev pub AreRefusedWith : Asked → (InPort → List ℕ) → InPort → ℕ → Type 0
 AreRefusedWith job texts Netlist status = (status ≡ 3) × ((c : net.Netlist) → ¬ IsGoodNetlist (texts Netlist) c)
-AreRefusedWith (sim netlist tests report start) texts Tests status = (status ≡ 7) × HasCircuit texts
-    (λ c. (values : List Tern) × (line : ℕ) × IsStartOf start c texts values × IsMalformedTest c (texts Tests) line)
-AreRefusedWith (gen netlist tests report proofs options) texts Tests status = (status ≡ 7) × HasCircuit texts
-    (λ c. (values : List Tern) × (line : ℕ) × IsStartOf options.start c texts values
-    × IsMalformedTest c (texts Tests) line)
-AreRefusedWith (gen netlist tests report proofs options) texts Faults status = (status ≡ 13) × HasCircuit texts
-    (λ c. (values : List Tern) × (list : List (List Bool)) × (line : ℕ) × IsStartOf options.start c texts values
-    × AreTestsOf options.first c texts list × IsMalformedFaultList (length (faults_of c)) (texts Faults) line)
-AreRefusedWith (respond netlist tests out fault start) texts Tests status = (status ≡ 7) × HasCircuit texts
-    (λ c. (values : List Tern) × (line : ℕ) × IsStartOf start c texts values × IsListed c fault
-    × IsMalformedTest c (texts Tests) line)
-AreRefusedWith (diagnose netlist tests responses out) texts Tests status =
-    (status ≡ 7) × HasCircuit texts (λ c. (line : ℕ) × IsMalformedTest c (texts Tests) line)
-AreRefusedWith (diagnose netlist tests responses out) texts Extra status =
-    (status ≡ 10) × HasCircuit texts (λ c. (list : List (List Bool)) × IsTestText c (texts Tests) list
-    × ((line : ℕ) × IsMalformedResponse (length c.outputs) (length list) (texts Extra) line))
-AreRefusedWith job texts Extra status =
-    (status ≡ 8) × HasCircuit texts (λ c. (line : ℕ) × IsMalformedStart (length c.dffs) (texts Extra) line)
-AreRefusedWith (compact netlist tests out) texts Tests status =
-    ((status ≡ 7) × HasCircuit texts (λ c. (line : ℕ) × IsMalformedEarly c (texts Tests) line))
-    ⊎ ((status ≡ 9) × HasCircuit texts (λ c. HasTooManyVectors c (texts Tests)))
-AreRefusedWith (check netlist tests report proofs start) texts Proofs status =
-    (status ≡ 1) × HasCircuit texts (λ c. (representatives : List ℕ) × (values : List Tern) × AreClasses c representatives
-    × IsStartOf start c texts values
-    × (¬ AreValidFiles c representatives values (texts Tests) (texts Report) (texts Proofs)))
-AreRefusedWith (asked.report netlist tests proofs out budget start) texts Proofs status =
-    (status ≡ 1) × HasCircuit texts (λ c. (representatives : List ℕ) × (values : List Tern) × AreClasses c representatives
-    × IsStartOf start c texts values
-    × (¬ JustifyReport c representatives values budget (texts Tests) (texts Proofs)))
-AreRefusedWith job texts port status = ⊥
+AreRefusedWith job texts Report status = ⊥
+AreRefusedWith job texts Proofs status = (status ≡ 1) × AreDenied job texts
+AreRefusedWith job texts port status = IsRefusedText job texts port status
 
 -- The desk tells texts of the job's files up to a port, of which one is refused with this status.
 pub record HasRefusedInputs (job : Asked) (status : ℕ) (desk : DeskView) : Type 0 where

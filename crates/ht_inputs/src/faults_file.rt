@@ -6,7 +6,7 @@ ghost use Rattle.ht_net.specs.Circuit.Netlist.{Netlist};
 ghost use Rattle.ht_faults.specs.Sites.{faults_of};
 ghost use Rattle.ht_texts.specs.FaultListTexts.{AreFaultLines, IsFaultListText};
 ghost use Rattle.ht_asked.specs.Asked.{Asked};
-ghost use Rattle.ht_inputs.specs.Inputs.{JobBasis, WasRead};
+ghost use Rattle.ht_inputs.specs.Inputs.{HasFault, JobBasis, WasRead};
 ghost use Rattle.ht_inputs.specs.Jobs.{input_name};
 ghost use Rattle.ht_inputs.specs.Reading.{EndsReading, HasReadTo, ReadStops};
 
@@ -103,7 +103,7 @@ pub fn read_chosen<D: Desk>(
     ensures named { IfOk result (λ chosen. is_some chosen ≡ is_some name.now) }
     ensures stopped { (job : Asked) (basis : JobBasis) (first : DeskView)
         → input_name job in_port.Faults ≡ name.now → length (faults_of basis.circuit) ≡ count
-        → HasReadTo job basis 5 first (D.view desk.old)
+        → HasFault job basis.circuit → HasReadTo job basis 5 first (D.view desk.old)
         → IfErr result (EndsReading job first (D.view desk.new)) }
 {
     match name {

@@ -48,7 +48,8 @@ pub fn read_netlist<D: Desk>(alloc: Global, desk: &mut D, name: &str) -> Result<
     ensures frame { InCall in_port.Netlist (D.view desk.old) (D.view desk.new) }
     ensures netlist { IfOk result HasNetlist }
     ensures read { (job : Asked) (basis : JobBasis) → input_name job in_port.Netlist ≡ Some name.now
-        → IsStated job basis → IfOk result (λ c. basis.circuit ≡ c → ((text : List ℕ) → IsGoodNetlist text c
+        → IsStated job basis → IfOk result
+        (λ c. basis.circuit ≡ c → ((text : List ℕ) → IsGoodNetlist text c
         → SaysBasis job basis in_port.Netlist text)
         → HasReadTo job basis 1 (D.view desk.old) (D.view desk.new)) }
     ensures stops { (job : Asked) → input_name job in_port.Netlist ≡ Some name.now

@@ -1,5 +1,5 @@
 //! The proofs, from their file to whether they back a report, or to the verdicts that they justify.
-ghost use Rattle.std.specs.Prelude.{◌≡◌, [], List, ℕ, Option, length, IsTrue, IfOk, IfErr, OnOk};
+ghost use Rattle.std.specs.Prelude.{◌≡◌, [], List, length, IsTrue, IfOk, IfErr, OnOk};
 ghost use Rattle.ht_ports.specs.Desk.{InCall};
 ghost use Rattle.ht_ports.specs.declared.ports.InPort.TheVariants as in_port;
 ghost use Rattle.ht_faults.specs.Sites.{faults_of};
@@ -7,7 +7,7 @@ ghost use Rattle.ht_texts.specs.SearchReports.{IsBudget};
 ghost use Rattle.ht_entries.specs.declared.numbered.Numbered.{Numbered};
 ghost use Rattle.ht_valid.specs.ValidFiles.{Content};
 ghost use Rattle.ht_judge.specs.ProofJudging.{FollowsProofs, JudgesProofs};
-ghost use Rattle.ht_asked.specs.Asked as asked;
+ghost use Rattle.ht_asked.specs.Asked.{Asked, check, report};
 ghost use Rattle.ht_inputs.specs.Grading.{HasDetections, IsOfCircuit};
 ghost use Rattle.ht_inputs.specs.Inputs.{JobBasis};
 ghost use Rattle.ht_inputs.specs.Judging.{AgreeWithTests, ProofsAreRead, ProofsStop, StandsForProofs, VerdictsAreRead, check_basis, report_basis};
@@ -109,10 +109,10 @@ pub fn read_proofs<D: Desk>(
         → OnOk result ((entries : List Numbered) × ProofsAreRead graded.now.circuit
         graded.now.listed.classes (record content { entries = entries }) name.now
         (D.view desk.old)) }
-    ensures stops { (netlist tests report proofs : List ℕ) (start_file : Option (List ℕ))
-        (content : Content) → content.start ≡ graded.now.start.items
+    ensures stops { (job : Asked) (content : Content) → job.command ≡ check
+        → content.start ≡ graded.now.start.items
         → content.budget ≡ claims.budget → content.saids ≡ claims.saids.items
-        → IfErr result (ReadStops (asked.check netlist tests report proofs start_file)
+        → IfErr result (ReadStops job
         (check_basis graded.now.circuit graded.now.listed.classes content) in_port.Proofs name.now
         (D.view desk.old) (D.view desk.new)) }
 {
@@ -145,10 +145,11 @@ pub fn read_verdicts<D: Desk>(
         → content.budget ≡ budget → HasDetections graded.now content.start content.list
         → IfOk result (VerdictsAreRead graded.now.circuit graded.now.listed.classes content
         name.now (D.view desk.old)) }
-    ensures stops { (netlist tests proofs out : List ℕ) (start_file : Option (List ℕ))
-        (content : Content) → content.start ≡ graded.now.start.items → content.budget ≡ budget
+    ensures stops { (job : Asked) (content : Content) → job.command ≡ report
+        → job.numbers.budget ≡ budget → content.start ≡ graded.now.start.items
+        → content.budget ≡ budget
         → HasDetections graded.now content.start content.list
-        → IfErr result (ReadStops (asked.report netlist tests proofs out budget start_file)
+        → IfErr result (ReadStops job
         (report_basis graded.now.circuit graded.now.listed.classes content) in_port.Proofs name.now
         (D.view desk.old) (D.view desk.new)) }
 {

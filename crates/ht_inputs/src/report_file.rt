@@ -1,11 +1,12 @@
 //! The report, from its file to what it claims.
-ghost use Rattle.std.specs.Prelude.{◌≡◌, List, ℕ, Option, IfOk, IfErr};
+ghost use Rattle.std.specs.Prelude.{◌≡◌, IfOk, IfErr, true};
 ghost use Rattle.ht_ports.specs.Desk.{InCall};
 ghost use Rattle.ht_ports.specs.declared.ports.InPort.TheVariants as in_port;
 ghost use Rattle.ht_texts.specs.SearchReports.{HasShortNames, IsBudget};
 ghost use Rattle.ht_valid.specs.ValidFiles.{Content};
-ghost use Rattle.ht_asked.specs.Asked as asked;
+ghost use Rattle.ht_asked.specs.Asked.{Asked};
 ghost use Rattle.ht_inputs.specs.Grading.{HasDetections, IsOfCircuit};
+ghost use Rattle.ht_inputs.specs.Jobs.{judges};
 ghost use Rattle.ht_inputs.specs.Judging.{ReportIsRead, check_basis};
 ghost use Rattle.ht_inputs.specs.Reading.{ReadStops};
 
@@ -74,11 +75,10 @@ pub fn read_report<D: Desk>(
         → content.saids ≡ claims.saids.items → ReportIsRead
         (check_basis graded.now.circuit graded.now.listed.classes content) name.now
         (D.view desk.old)) }
-    ensures stops { (netlist tests report proofs : List ℕ) (start_file : Option (List ℕ))
-        (content : Content)
+    ensures stops { (job : Asked) (content : Content) → judges job.command ≡ true
         → HasDetections graded.now content.start content.list
         → HasShortNames graded.now.circuit
-        → IfErr result (ReadStops (asked.check netlist tests report proofs start_file)
+        → IfErr result (ReadStops job
         (check_basis graded.now.circuit graded.now.listed.classes content) in_port.Report name.now
         (D.view desk.old) (D.view desk.new)) }
 {

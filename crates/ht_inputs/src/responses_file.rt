@@ -1,13 +1,14 @@
 //! The responses, from their file to an observation.
-ghost use Rattle.std.specs.Prelude.{◌≡◌, ◌+◌, ◌≤◌, ◌<◌, ◌++◌, ◌∷◌, [], length, List, ℕ, IfOk, IfErr, MatchBool};
+ghost use Rattle.std.specs.Prelude.{◌≡◌, ◌+◌, ◌≤◌, ◌<◌, ◌++◌, ◌∷◌, [], length, List, IfOk, IfErr, MatchBool, false};
 ghost use Rattle.ht_ports.specs.Desk.{InCall};
 ghost use Rattle.ht_ports.specs.declared.ports.InPort.TheVariants as in_port;
 ghost use Rattle.ht_tern.specs.declared.tern.Tern.{Tern};
 ghost use Rattle.ht_net.specs.Circuit.Netlist.{max_nets};
 ghost use Rattle.ht_dictionary.specs.ResponseTexts.{IsResponseText, IsRowText};
 ghost use Rattle.ht_inputs.specs.declared.run_error.RunError.TheVariants as error;
-ghost use Rattle.ht_asked.specs.Asked as asked;
+ghost use Rattle.ht_asked.specs.Asked.{Asked};
 ghost use Rattle.ht_inputs.specs.Inputs.{JobBasis, WasRead};
+ghost use Rattle.ht_inputs.specs.Jobs.{may_state_start};
 ghost use Rattle.ht_inputs.specs.Reading.{ReadStops};
 
 use crate::judged_file::{LineJudge, read_lines};
@@ -121,10 +122,10 @@ pub fn read_responses<D: Desk>(
     ensures each { IfOk result (λ observation. length observation.rows ≡ vectors) }
     ensures read { IfOk result (λ observation. WasRead in_port.Extra name.now
         (λ text. IsResponseText width vectors text observation.rows) (D.view desk.old)) }
-    ensures stops { (netlist tests responses out : List ℕ) (basis : JobBasis)
+    ensures stops { (job : Asked) (basis : JobBasis) → may_state_start job ≡ false
         → length basis.circuit.outputs ≡ width → length basis.content.list ≡ vectors
-        → IfErr result (ReadStops (asked.diagnose netlist tests responses out) basis in_port.Extra
-        name.now (D.view desk.old) (D.view desk.new)) }
+        → IfErr result (ReadStops job basis in_port.Extra name.now
+        (D.view desk.old) (D.view desk.new)) }
 {
     let mut reader = ResponsesReader {
         alloc,

@@ -13,7 +13,7 @@ use std::alloc::{AllocError, AllocFailed};
 /// | Error | Status | Line on Err |
 /// |---|---|---|
 /// | `Denied` | 1 | `denied: report line 2` |
-/// | `Usage` | 2 | `usage: sim NETLIST TESTS REPORT [--start FILE], gen NETLIST TESTS REPORT PROOFS [--budget N] [--random N] [--seed S] [--start FILE] [--first FILE] [--faults FILE] [--weighted N] [--search plain\|deep], check NETLIST TESTS REPORT PROOFS [--start FILE], norm NETLIST OUT, demo SIZE SEED, compact NETLIST TESTS OUT, diagnose NETLIST TESTS RESPONSES OUT, uninit NETLIST OUT [--budget N], sync NETLIST TESTS OUT [--budget N], respond NETLIST TESTS OUT [--fault N] [--start FILE], report NETLIST TESTS PROOFS REPORT [--budget N] [--start FILE]` |
+/// | `Usage` | 2 | `usage: FORMS`, the forms of all commands |
 /// | `TooLong` | 3 | `netlist: too long` |
 /// | `Refused` | 3 | `netlist: line 2: undriven b` |
 /// | `ReadFault` | 4 | `read fault` |

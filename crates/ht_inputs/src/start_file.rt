@@ -141,7 +141,8 @@ pub fn read_stated<D: Desk>(
         → HasReadTo job basis 1 first (D.view desk.old)
         → IfOk result (λ start. basis.content.start ≡ start.items
         → HasReadTo job basis 2 first (D.view desk.new)) }
-    ensures stopped { (job : Asked) (basis : JobBasis) (first : DeskView) → may_state_start job ≡ true
+    ensures stopped { (job : Asked) (basis : JobBasis) (first : DeskView) → may_state_start job ≡
+        true
         → input_name job in_port.Extra ≡ name.now → basis.circuit ≡ circuit.now
         → HasReadTo job basis 1 first (D.view desk.old)
         → IfErr result (EndsReading job first (D.view desk.new)) }

@@ -1,16 +1,14 @@
 //! The tests, from their file to a list of vectors.
-ghost use Rattle.std.specs.Prelude.{◌≡◌, ◌≤◌, ◌+◌, ◌++◌, ◌∷◌, [], length, List, ℕ, Bool, IfOk, IfErr, MatchBool, None};
+ghost use Rattle.std.specs.Prelude.{◌≡◌, ◌≤◌, ◌+◌, ◌++◌, ◌∷◌, [], length, List, Bool, IfOk, IfErr, MatchBool, None, true};
 ghost use Rattle.ht_ports.specs.Desk.{DeskView, InCall};
 ghost use Rattle.ht_ports.specs.LineRule.{max_text_bytes};
 ghost use Rattle.ht_ports.specs.declared.ports.InPort.TheVariants as in_port;
 ghost use Rattle.ht_net.specs.Circuit.Netlist.{IsCircuit};
 ghost use Rattle.ht_texts.specs.Tests.{IsTextOf};
 ghost use Rattle.ht_compact.specs.TestsToCompact.{IsTestTextToCompact};
-ghost use Rattle.ht_valid.specs.ValidFiles.{Content};
-ghost use Rattle.ht_asked.specs.Asked as asked;
-ghost use Rattle.ht_asked.specs.Asked.{GenOptions};
-ghost use Rattle.ht_inputs.specs.Inputs.{JobBasis, WasRead};
-ghost use Rattle.ht_inputs.specs.Judging.{check_basis};
+ghost use Rattle.ht_asked.specs.Asked.{Asked, gen};
+ghost use Rattle.ht_inputs.specs.Inputs.{HasFault, JobBasis, WasRead};
+ghost use Rattle.ht_inputs.specs.Jobs.{input_name, takes_few};
 ghost use Rattle.ht_inputs.specs.Reading.{AreVectorsUpTo, EndsReading, HasReadTo, ReadStops, TestsStop};
 
 use crate::judged_file::{LineJudge, read_lines};
@@ -129,10 +127,9 @@ pub fn read_few_tests<D: Desk>(
     ensures read { IfOk result (λ list. WasRead in_port.Tests name.now
         (λ text. IsTestTextToCompact circuit.now text list.list) (D.view desk.old)) }
     ensures width { IfOk result (λ list. list.width ≡ circuit.now.inputs) }
-    ensures stops { (netlist tests out representatives : List ℕ) (content : Content)
-        → IfErr result (ReadStops (asked.compact netlist tests out)
-        (check_basis circuit.now representatives content) in_port.Tests name.now
-        (D.view desk.old) (D.view desk.new)) }
+    ensures stops { (job : Asked) (basis : JobBasis) → takes_few job.command ≡ true
+        → basis.circuit ≡ circuit.now → IfErr result
+        (ReadStops job basis in_port.Tests name.now (D.view desk.old) (D.view desk.new)) }
 {
     let list = read_tests(alloc, desk, name, circuit, MAX_COMPACTED + 1)?;
     if list.len() > MAX_COMPACTED {
@@ -154,18 +151,15 @@ pub fn read_first<D: Desk>(
     requires { IsCircuit circuit.now }
     ensures width { IfOk result (λ list. list.width ≡ circuit.now.inputs) }
     ensures none { name.now ≡ None → IfOk result (λ list. list.list ≡ []) }
-    ensures read { (netlist tests report proofs : List ℕ) (options : GenOptions) (basis : JobBasis)
-        (first : DeskView) → options.first ≡ name.now → basis.circuit ≡ circuit.now
-        → HasReadTo (asked.gen netlist tests report proofs options) basis 2 first (D.view desk.old)
+    ensures read { (job : Asked) (basis : JobBasis) (first : DeskView) → job.command ≡ gen
+        → input_name job in_port.Tests ≡ name.now → basis.circuit ≡ circuit.now
+        → HasReadTo job basis 2 first (D.view desk.old)
         → IfOk result (λ list. basis.content.list ≡ list.list
-        → HasReadTo (asked.gen netlist tests report proofs options) basis 3 first
-        (D.view desk.new)) }
-    ensures stopped { (netlist tests report proofs : List ℕ) (options : GenOptions)
-        (basis : JobBasis) (first : DeskView) → options.first ≡ name.now
-        → basis.circuit ≡ circuit.now
-        → HasReadTo (asked.gen netlist tests report proofs options) basis 2 first (D.view desk.old)
-        → IfErr result (EndsReading (asked.gen netlist tests report proofs options) first
-        (D.view desk.new)) }
+        → HasReadTo job basis 3 first (D.view desk.new)) }
+    ensures stopped { (job : Asked) (basis : JobBasis) (first : DeskView) → job.command ≡ gen
+        → input_name job in_port.Tests ≡ name.now → basis.circuit ≡ circuit.now
+        → HasFault job basis.circuit → HasReadTo job basis 2 first (D.view desk.old)
+        → IfErr result (EndsReading job first (D.view desk.new)) }
 {
     match name {
         Some(name) => read_tests(alloc, desk, name.as_str(), circuit, u64::MAX),

@@ -1,2 +1,3 @@
 mod ArgumentLaws
+pub mod AskedLaws
 mod NumberLaws

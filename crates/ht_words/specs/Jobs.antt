@@ -1,38 +1,36 @@
 -- Jobs as what words ask for.
-use Rattle.std.specs.Prelude.{◌≡◌, ◌∷◌, List, Option, Some, None, Result, Err, IfOk, [], codes, map}
+use Rattle.std.specs.Prelude.{◌≡◌, ◌∷◌, List, [], Option, Some, None, Result, Err, IfOk, ℕ, codes, map, option_and_then}
 use Rattle.clap.specs.Words.{Row, Text, first_of}
-use Rattle.ht_asked.specs.Asked.{Asked, GenOptions, check, compact, demo, diagnose, gen, norm, report, respond, sim, sync, uninit}
-use Rattle.ht_asked.specs.Asked.{budget_of, deep_of, options_with, random_of, seed_of}
+use Rattle.ht_asked.specs.declared.limits.TheConstants.{MAX_SEED, MAX_SIZE, MIN_SIZE}
+use Rattle.ht_asked.specs.Asked.{Asked, Numbers, OutNames, makes_nothing, reads_nothing, unsaid}
+use Rattle.ht_asked.specs.Asked.{sim, gen, check, norm, demo, compact, diagnose, uninit, sync, respond, report}
 use Rattle.ht_asked.specs.ByClap.{all_of}
-use Rattle.ht_words.specs.declared.job.GenOptions.{GenOptions as Options}
+use Rattle.ht_asked.specs.Commands.{budget_of, deep_of, numbers_with, random_of, seed_of}
+use Rattle.ht_asked.specs.Numbers.{number_in}
+use Rattle.ht_words.specs.declared.job.GenOptions.{GenOptions}
 use Rattle.ht_words.specs.declared.job.Job.{Job}
 use Rattle.ht_words.specs.declared.job.Job.TheVariants as job
 use Rattle.ht_words.specs.declared.job.RunFiles.{RunFiles}
 use Rattle.ht_words.specs.declared.job.WordsFault.{WordsFault}
 use Rattle.ht_words.specs.declared.job.WordsFault.TheVariants.{Usage}
 
--- what the options of `gen` say where they are those of the job
-abbrev pub options_by : Options → GenOptions
-options_by o = record {
+-- the numbers that the options of `gen` say
+abbrev pub numbers_by : GenOptions → Numbers
+numbers_by o = record unsaid {
   budget = o.budget;
   random = o.random;
-  seed = o.seed;
-  start = o.start;
-  first = o.first;
-  faults = o.faults;
   weighted = o.weighted;
+  seed = o.seed;
   deep = o.deep;
 }
 
--- what the options of `gen` say in the rows in which `clap` gives the values, if each number is one
-abbrev pub options_in : List Row → Option GenOptions
-options_in rows = options_with
-    (budget_of (first_of (codes "budget") rows)) (random_of (first_of (codes "random") rows))
-    (seed_of (first_of (codes "seed") rows)) (first_of (codes "start") rows)
-    (first_of (codes "first") rows) (first_of (codes "faults") rows)
-    (random_of (first_of (codes "weighted") rows)) (deep_of (first_of (codes "search") rows))
+-- the numbers that the options of `gen` say in the rows in which `clap` gives the values, where each is one
+abbrev pub numbers_in : List Row → Option Numbers
+numbers_in rows = numbers_with (budget_of (first_of (codes "budget") rows))
+    (random_of (first_of (codes "random") rows)) (random_of (first_of (codes "weighted") rows))
+    (seed_of (first_of (codes "seed") rows)) (deep_of (first_of (codes "search") rows)) (Some None) (Some MIN_SIZE)
 
--- the names of the files of a run in the rows, if none is missing
+-- the names of the files of a run in the rows, where none is missing
 abbrev pub files_in : List Row → Option (List Text)
 files_in rows = all_of (map (λ id. first_of id rows)
     (codes "netlist" ∷ codes "tests" ∷ codes "report" ∷ codes "proofs" ∷ []))
@@ -41,20 +39,104 @@ files_in rows = all_of (map (λ id. first_of id rows)
 abbrev pub run_names : RunFiles → List Text
 run_names files = files.netlist ∷ files.tests ∷ files.report ∷ files.proofs ∷ []
 
+-- the three files that a search makes
+abbrev pub made_by : RunFiles → OutNames
+made_by files = record { tests = Some files.tests; report = Some files.report; proofs = Some files.proofs }
+
 -- what words ask for where they ask for the job
 abbrev pub asked_by : Job → Asked
-asked_by (job.Sim netlist tests out start) = sim netlist tests out start
-asked_by (job.Gen files options) = gen files.netlist files.tests files.report files.proofs (options_by options)
-asked_by (job.Check files start) = check files.netlist files.tests files.report files.proofs start
-asked_by (job.Norm netlist out) = norm netlist out
-asked_by (job.Demo size seed) = demo size seed
-asked_by (job.Compact netlist tests out) = compact netlist tests out
-asked_by (job.Diagnose netlist tests responses out) = diagnose netlist tests responses out
-asked_by (job.Uninit netlist out budget) = uninit netlist out budget
-asked_by (job.Sync netlist tests out budget) = sync netlist tests out budget
-asked_by (job.Respond netlist tests out fault start) = respond netlist tests out fault start
-asked_by (job.Report files budget start) =
-    report files.netlist files.tests files.proofs files.report budget start
+asked_by (job.Sim netlist tests out start) = record {
+  command = sim;
+  reads = record reads_nothing { netlist = Some netlist; tests = Some tests; extra = start };
+  makes = record makes_nothing { report = Some out };
+  numbers = unsaid;
+}
+asked_by (job.Gen files options) = record {
+  command = gen;
+  reads = record reads_nothing {
+    netlist = Some files.netlist;
+    tests = options.first;
+    faults = options.faults;
+    extra = options.start;
+  };
+  makes = made_by files;
+  numbers = numbers_by options;
+}
+asked_by (job.Check files start) = record {
+  command = check;
+  reads = record reads_nothing {
+    netlist = Some files.netlist;
+    tests = Some files.tests;
+    report = Some files.report;
+    proofs = Some files.proofs;
+    extra = start;
+  };
+  makes = makes_nothing;
+  numbers = unsaid;
+}
+asked_by (job.Norm netlist out) = record {
+  command = norm;
+  reads = record reads_nothing { netlist = Some netlist };
+  makes = record makes_nothing { report = Some out };
+  numbers = unsaid;
+}
+asked_by (job.Demo size seed) = record {
+  command = demo;
+  reads = reads_nothing;
+  makes = makes_nothing;
+  numbers = record unsaid { size = size; seed = seed };
+}
+asked_by (job.Compact netlist tests out) = record {
+  command = compact;
+  reads = record reads_nothing { netlist = Some netlist; tests = Some tests };
+  makes = record makes_nothing { tests = Some out };
+  numbers = unsaid;
+}
+asked_by (job.Diagnose netlist tests responses out) = record {
+  command = diagnose;
+  reads = record reads_nothing { netlist = Some netlist; tests = Some tests; extra = Some responses };
+  makes = record makes_nothing { report = Some out };
+  numbers = unsaid;
+}
+asked_by (job.Uninit netlist out budget) = record {
+  command = uninit;
+  reads = record reads_nothing { netlist = Some netlist };
+  makes = record makes_nothing { report = Some out };
+  numbers = record unsaid { budget = budget };
+}
+asked_by (job.Sync netlist tests out budget) = record {
+  command = sync;
+  reads = record reads_nothing { netlist = Some netlist };
+  makes = record makes_nothing { tests = Some tests; report = Some out };
+  numbers = record unsaid { budget = budget };
+}
+asked_by (job.Respond netlist tests out fault start) = record {
+  command = respond;
+  reads = record reads_nothing { netlist = Some netlist; tests = Some tests; extra = start };
+  makes = record makes_nothing { report = Some out };
+  numbers = record unsaid { fault = fault };
+}
+asked_by (job.Report files budget start) = record {
+  command = report;
+  reads = record reads_nothing {
+    netlist = Some files.netlist;
+    tests = Some files.tests;
+    proofs = Some files.proofs;
+    extra = start;
+  };
+  makes = record makes_nothing { report = Some files.report };
+  numbers = record unsaid { budget = budget };
+}
+
+-- `demo`, where its size and its seed are numbers
+abbrev pub demo_with : Option ℕ → Option ℕ → Option Asked
+demo_with (Some size) (Some seed) = Some (asked_by (job.Demo size seed))
+demo_with _ _ = None
+
+-- `demo`, by the rows in which `clap` gives the values
+abbrev pub demo_in : List Row → Option Asked
+demo_in rows = demo_with (option_and_then (number_in MIN_SIZE MAX_SIZE) (first_of (codes "size") rows))
+    (option_and_then (number_in 0 MAX_SEED) (first_of (codes "seed") rows))
 
 -- what is read where the words say this: their value, or a refusal; `Usage` only where they say none
 pub record IsReadAs {T U : Type 0} (said : Option U) (taken : T → U) (result : Result T WordsFault) : Type 0 where

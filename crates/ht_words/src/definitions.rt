@@ -2,7 +2,7 @@
 ghost use Rattle.std.specs.Prelude.{◌≡◌, IfOk, IfSome, false, map, option_map, true};
 ghost use Rattle.clap.specs.Walk.{texts};
 ghost use Rattle.clap.specs.Words.{app_of, is_simple_and_free, rule_of};
-ghost use Rattle.ht_asked.specs.Asked.{command_named};
+ghost use Rattle.ht_asked.specs.Commands.{command_named};
 ghost use Rattle.ht_asked.specs.ByClap.{app_named, app_with};
 ghost use Rattle.ht_words.specs.Arguments.{form_of, rule_for, with_rules};
 

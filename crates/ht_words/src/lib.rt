@@ -1,11 +1,7 @@
 //! The words of the command line, read by `clap`: which of them ask for which job.
 //!
-//! `sim NETLIST TESTS REPORT [--start FILE]`, `gen NETLIST TESTS REPORT PROOFS [--budget N] [--random N] [--seed S]
-//! [--start FILE] [--first FILE] [--faults FILE] [--weighted N] [--search plain|deep]`, `check NETLIST TESTS REPORT
-//! PROOFS [--start FILE]`, `norm NETLIST OUT`, `demo SIZE SEED`, `compact NETLIST TESTS OUT`, `diagnose NETLIST TESTS
-//! RESPONSES OUT`, `uninit NETLIST OUT [--budget N]`, `sync NETLIST TESTS OUT [--budget N]`, `respond NETLIST TESTS OUT
-//! [--fault N] [--start FILE]` and `report NETLIST TESTS PROOFS REPORT [--budget N] [--start FILE]`. The first word names
-//! the command, in lower case. An option stands anywhere after it, at most once, with its value in the next word or after
+//! The table of the commands is ht_asked's (`specs/Commands`), and `definitions` has it for `clap`. The first word names the
+//! command, in lower case. An option stands anywhere after it, at most once, with its value in the next word or after
 //! `=`. A number has digits alone. Any other word that begins with a hyphen and has more after it is refused, as is a
 //! request for help or for a version; `-` alone is a name like any other. The first `--` is left out, and after it each
 //! word is a name, or the size or the seed of `demo`.

@@ -1,7 +1,8 @@
 //! Numbers among the words: as their text, and as the values that `clap` found.
 ghost use Rattle.std.specs.Prelude.{codes, option_and_then};
 ghost use Rattle.clap.specs.Words.{first_of, found_of, rows_of};
-ghost use Rattle.ht_asked.specs.Asked.{budget_of, fault_of, random_of, seed_of, size_in};
+ghost use Rattle.ht_asked.specs.Commands.{budget_of, fault_of, random_of, seed_of};
+ghost use Rattle.ht_asked.specs.declared.limits.TheConstants as limit;
 ghost use Rattle.ht_asked.specs.Numbers.{number_in, number_or};
 ghost use Rattle.ht_words.specs.Jobs.{Reads};
 
@@ -66,7 +67,8 @@ fn number_or_default(
 
 /// The budget of each search.
 pub fn budget(matches: &ArgMatches<'_>) -> Result<u64, WordsFault>
-    ensures { Reads (budget_of (first_of (codes "budget") (rows_of (found_of matches.now)))) result }
+    ensures { Reads (budget_of (first_of (codes "budget") (rows_of (found_of matches.now))))
+        result }
 {
     number_or_default(matches, "budget", DEFAULT_BUDGET, MIN_BUDGET, MAX_BUDGET)
 }
@@ -98,7 +100,7 @@ pub fn fault_number(matches: &ArgMatches<'_>) -> Result<Option<u32>, WordsFault>
 
 /// The size of a demonstration netlist.
 pub fn size(matches: &ArgMatches<'_>) -> Result<u32, WordsFault>
-    ensures { Reads (option_and_then size_in
+    ensures { Reads (option_and_then (number_in limit.MIN_SIZE limit.MAX_SIZE)
         (first_of (codes "size") (rows_of (found_of matches.now)))) result }
 {
     let number = wanted_number(matches, "size", MIN_SIZE, MAX_SIZE)?;

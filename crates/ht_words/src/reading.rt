@@ -1,12 +1,10 @@
 //! From words to a job.
 ghost use Rattle.std.specs.Prelude.{◌≡◌, IfOk, codes, false, option_and_then, true};
 ghost use Rattle.clap.specs.Words.{app_of, first_of, found_of, is_simple_and_free, matches_of, rows_of};
-ghost use Rattle.ht_asked.specs.Asked.{asked, check_command, command_named, gen_command, sim_command, words_of};
-ghost use Rattle.ht_asked.specs.Asked.{deep_of, demo_with, report_command, respond_command, seed_in, size_in};
-ghost use Rattle.ht_asked.specs.Asked.{compact_command, diagnose_command, norm_command, sync_command};
-ghost use Rattle.ht_asked.specs.Asked.{uninit_command};
+ghost use Rattle.ht_asked.specs.Asked as kind;
+ghost use Rattle.ht_asked.specs.Commands.{asked, command_named, command_of, deep_of, words_of};
 ghost use Rattle.ht_asked.specs.ByClap.{asked_by_clap, asked_in_rows, is_taken};
-ghost use Rattle.ht_words.specs.Jobs.{IsAnswer, IsReadAs, Reads, files_in, run_names, options_by, options_in};
+ghost use Rattle.ht_words.specs.Jobs.{IsAnswer, IsReadAs, Reads, demo_in, files_in, numbers_by, numbers_in, run_names};
 ghost use Rattle.ht_words.specs.declared.job.WordsFault.TheVariants as fault;
 
 use crate::definitions::definition;
@@ -88,7 +86,8 @@ macro_rules! with_values {
 
 /// The job of `sim`.
 fn sim_job(alloc: Global, matches: &ArgMatches<'_>) -> Result<Job, WordsFault>
-    ensures { IsAnswer (asked_in_rows sim_command (rows_of (found_of matches.now))) result }
+    ensures { IsAnswer (asked_in_rows (command_of kind.sim) (rows_of (found_of matches.now)))
+        result }
 {
     let start = optional_value(alloc, matches, "start")?;
     with_values!(alloc, matches => Job::Sim { netlist, tests, report; start })
@@ -103,7 +102,13 @@ fn run_files(alloc: Global, matches: &ArgMatches<'_>) -> Result<RunFiles, WordsF
 
 /// The options of `gen`. The numbers are asked first, while nothing is owned.
 fn gen_options(alloc: Global, matches: &ArgMatches<'_>) -> Result<GenOptions, WordsFault>
-    ensures { IsReadAs (options_in (rows_of (found_of matches.now))) options_by result }
+    ensures numbers { IsReadAs (numbers_in (rows_of (found_of matches.now))) numbers_by result }
+    ensures start { IfOk result
+        (λ o. first_of (codes "start") (rows_of (found_of matches.now)) ≡ o.start) }
+    ensures first { IfOk result
+        (λ o. first_of (codes "first") (rows_of (found_of matches.now)) ≡ o.first) }
+    ensures faults { IfOk result
+        (λ o. first_of (codes "faults") (rows_of (found_of matches.now)) ≡ o.faults) }
 {
     let budget = budget(matches)?;
     let random_count = random(matches, "random")?;
@@ -124,7 +129,8 @@ fn gen_options(alloc: Global, matches: &ArgMatches<'_>) -> Result<GenOptions, Wo
 
 /// The job of `gen`.
 fn gen_job(alloc: Global, matches: &ArgMatches<'_>) -> Result<Job, WordsFault>
-    ensures { IsAnswer (asked_in_rows gen_command (rows_of (found_of matches.now))) result }
+    ensures { IsAnswer (asked_in_rows (command_of kind.gen) (rows_of (found_of matches.now)))
+        result }
 {
     let options = gen_options(alloc, matches)?;
     let files = run_files(alloc, matches)?;
@@ -133,7 +139,8 @@ fn gen_job(alloc: Global, matches: &ArgMatches<'_>) -> Result<Job, WordsFault>
 
 /// The job of `check`.
 fn check_job(alloc: Global, matches: &ArgMatches<'_>) -> Result<Job, WordsFault>
-    ensures { IsAnswer (asked_in_rows check_command (rows_of (found_of matches.now))) result }
+    ensures { IsAnswer (asked_in_rows (command_of kind.check) (rows_of (found_of matches.now)))
+        result }
 {
     let start = optional_value(alloc, matches, "start")?;
     let files = run_files(alloc, matches)?;
@@ -142,17 +149,15 @@ fn check_job(alloc: Global, matches: &ArgMatches<'_>) -> Result<Job, WordsFault>
 
 /// The job of `norm`.
 fn norm_job(alloc: Global, matches: &ArgMatches<'_>) -> Result<Job, WordsFault>
-    ensures { IsAnswer (asked_in_rows norm_command (rows_of (found_of matches.now))) result }
+    ensures { IsAnswer (asked_in_rows (command_of kind.norm) (rows_of (found_of matches.now)))
+        result }
 {
     with_values!(alloc, matches => Job::Norm { netlist, out })
 }
 
 /// The job of `demo`.
 fn demo_job(matches: &ArgMatches<'_>) -> Result<Job, WordsFault>
-    ensures { IsAnswer (demo_with
-        (option_and_then size_in (first_of (codes "size") (rows_of (found_of matches.now))))
-        (option_and_then seed_in (first_of (codes "seed") (rows_of (found_of matches.now)))))
-        result }
+    ensures { IsAnswer (demo_in (rows_of (found_of matches.now))) result }
 {
     Ok(Job::Demo {
         size: size(matches)?,
@@ -162,21 +167,24 @@ fn demo_job(matches: &ArgMatches<'_>) -> Result<Job, WordsFault>
 
 /// The job of `compact`.
 fn compact_job(alloc: Global, matches: &ArgMatches<'_>) -> Result<Job, WordsFault>
-    ensures { IsAnswer (asked_in_rows compact_command (rows_of (found_of matches.now))) result }
+    ensures { IsAnswer (asked_in_rows (command_of kind.compact) (rows_of (found_of matches.now)))
+        result }
 {
     with_values!(alloc, matches => Job::Compact { netlist, tests, out })
 }
 
 /// The job of `diagnose`.
 fn diagnose_job(alloc: Global, matches: &ArgMatches<'_>) -> Result<Job, WordsFault>
-    ensures { IsAnswer (asked_in_rows diagnose_command (rows_of (found_of matches.now))) result }
+    ensures { IsAnswer (asked_in_rows (command_of kind.diagnose) (rows_of (found_of matches.now)))
+        result }
 {
     with_values!(alloc, matches => Job::Diagnose { netlist, tests, responses, out })
 }
 
 /// The job of `uninit`.
 fn uninit_job(alloc: Global, matches: &ArgMatches<'_>) -> Result<Job, WordsFault>
-    ensures { IsAnswer (asked_in_rows uninit_command (rows_of (found_of matches.now))) result }
+    ensures { IsAnswer (asked_in_rows (command_of kind.uninit) (rows_of (found_of matches.now)))
+        result }
 {
     let budget = budget(matches)?;
     with_values!(alloc, matches => Job::Uninit { netlist, out; budget })
@@ -184,7 +192,8 @@ fn uninit_job(alloc: Global, matches: &ArgMatches<'_>) -> Result<Job, WordsFault
 
 /// The job of `sync`.
 fn sync_job(alloc: Global, matches: &ArgMatches<'_>) -> Result<Job, WordsFault>
-    ensures { IsAnswer (asked_in_rows sync_command (rows_of (found_of matches.now))) result }
+    ensures { IsAnswer (asked_in_rows (command_of kind.sync) (rows_of (found_of matches.now)))
+        result }
 {
     let budget = budget(matches)?;
     with_values!(alloc, matches => Job::Sync { netlist, tests, out; budget })
@@ -192,7 +201,8 @@ fn sync_job(alloc: Global, matches: &ArgMatches<'_>) -> Result<Job, WordsFault>
 
 /// The job of `respond`.
 fn respond_job(alloc: Global, matches: &ArgMatches<'_>) -> Result<Job, WordsFault>
-    ensures { IsAnswer (asked_in_rows respond_command (rows_of (found_of matches.now))) result }
+    ensures { IsAnswer (asked_in_rows (command_of kind.respond) (rows_of (found_of matches.now)))
+        result }
 {
     let fault = fault_number(matches)?;
     let start = optional_value(alloc, matches, "start")?;
@@ -201,7 +211,8 @@ fn respond_job(alloc: Global, matches: &ArgMatches<'_>) -> Result<Job, WordsFaul
 
 /// The job of `report`.
 fn report_job(alloc: Global, matches: &ArgMatches<'_>) -> Result<Job, WordsFault>
-    ensures { IsAnswer (asked_in_rows report_command (rows_of (found_of matches.now))) result }
+    ensures { IsAnswer (asked_in_rows (command_of kind.report) (rows_of (found_of matches.now)))
+        result }
 {
     let budget = budget(matches)?;
     let start = optional_value(alloc, matches, "start")?;

@@ -40,8 +40,8 @@ returns-in_err-claims g c = λ start first is.
     let f = c.args.files.now in
     let names = short_names is.netlist.0 c.args.graded.now.circuit is.netlist.1.stands in
     let ends = stops_there (vectors_read is 0 [] []) refl (ap Some (sym c.as_str-report.ensures))
-    c.in_err-claims.ensures.frame (λ is. tt) c.in_err-claims.field-0.0 (c.in_err-claims.ensures.stops f.netlist f.tests
-    f.report f.proofs start (said c.args.graded.now is.list 0 [] []) is.first names) in
+    c.in_err-claims.ensures.frame (λ is. tt) c.in_err-claims.field-0.0
+    (c.in_err-claims.ensures.stops (job f start) (said c.args.graded.now is.list 0 [] []) refl is.first names) in
     record { made = search rules; stopped = search (rules, ends) }
 
 pub read_proofs-requires-clause-each : goal.read_proofs-requires-clause-each
@@ -56,7 +56,7 @@ returns-in_err-read_proofs g c = λ start first is.
     let at = (goal.at.returns-in_err-read_proofs g c).In_ok-claims in
     let ends = stops_there (report_read g at is []) refl (ap Some (sym c.as_str.ensures))
     c.in_err-read_proofs.ensures.frame (λ is. tt) c.in_err-read_proofs.field-0.0 (c.in_err-read_proofs.ensures.stops
-    f.netlist f.tests f.report f.proofs start (claimed g at is.list []) refl refl refl) in
+    (job f start) (claimed g at is.list []) refl refl refl refl) in
     record { made = search rules; stopped = search (rules, ends) }
 
 -- ---- all are valid

@@ -1,6 +1,6 @@
 use Rattle.std.proofs.Common.{◌≡◌, refl, subst, sym}
 use Rattle.std.specs.Prelude.{List, Option, Result, ℕ}
-use Rattle.ht_app.proofs.Common.{DeskView, EndsJob, RunError, asked_by, compact, diagnose, sim, uninit}
+use Rattle.ht_app.proofs.Common.{DeskView, EndsJob, RunError, asked_by}
 use Rattle.ht_words.specs.declared.job.Job.{Job}
 use Rattle.ht_words.specs.declared.job.Job.TheVariants as job_of
 use Rattle.ht_app.specs.Outputs.{MakesOneFile}
@@ -15,25 +15,27 @@ ends_as {result = result} {a = a} {b = b} is ends =
 pub returns-in-Sim : goal.returns-in-Sim
 returns-in-Sim g c =
     let kind = c.in-Sim in
-    ends_as kind.is (c.finish.ensures (sim kind.netlist kind.tests kind.out kind.start) (g.D.Desk.view c.args.desk.now)
+    ends_as kind.is (c.finish.ensures (asked_by (job_of.Sim kind.netlist kind.tests kind.out kind.start))
+    (g.D.Desk.view c.args.desk.now)
     refl refl (c.simulate-made.ensures kind.out))
 
 pub returns-in-Compact : goal.returns-in-Compact
 returns-in-Compact g c =
     let kind = c.in-Compact in
-    ends_as kind.is (c.finish-in-Compact.ensures (compact kind.netlist kind.tests kind.out)
+    ends_as kind.is (c.finish-in-Compact.ensures (asked_by (job_of.Compact kind.netlist kind.tests kind.out))
     (g.D.Desk.view c.args.desk.now) refl refl (c.compact-made.ensures kind.out))
 
 pub returns-in-Diagnose : goal.returns-in-Diagnose
 returns-in-Diagnose g c =
     let kind = c.in-Diagnose in
-    ends_as kind.is (c.finish-in-Diagnose.ensures (diagnose kind.netlist kind.tests kind.responses kind.out)
+    ends_as kind.is (c.finish-in-Diagnose.ensures (asked_by
+    (job_of.Diagnose kind.netlist kind.tests kind.responses kind.out))
     (g.D.Desk.view c.args.desk.now) refl refl (c.diagnose-made.ensures kind.out))
 
 pub returns-in-Uninit : goal.returns-in-Uninit
 returns-in-Uninit g c =
     let kind = c.in-Uninit in
-    ends_as kind.is (c.finish-in-Uninit.ensures (uninit kind.netlist kind.out kind.budget)
+    ends_as kind.is (c.finish-in-Uninit.ensures (asked_by (job_of.Uninit kind.netlist kind.out kind.budget))
     (g.D.Desk.view c.args.desk.now) refl refl (c.uninit-made.ensures kind.out))
 
 -- each job that makes one file is of one of these kinds
@@ -42,7 +44,7 @@ none_is_left : (job : Job)
     → ((netlist tests out : List ℕ) → job ≡ job_of.Compact netlist tests out → ⊥)
     → ((netlist tests responses out : List ℕ) → job ≡ job_of.Diagnose netlist tests responses out → ⊥)
     → ((netlist out : List ℕ) (budget : ℕ) → job ≡ job_of.Uninit netlist out budget → ⊥)
-    → MakesOneFile (asked_by job) → ⊥
+    → MakesOneFile (asked_by job).command → ⊥
 none_is_left (job_of.Sim netlist tests out start) no_sim no_compact no_diagnose no_uninit one =
     no_sim netlist tests out start refl
 none_is_left (job_of.Compact netlist tests out) no_sim no_compact no_diagnose no_uninit one =

@@ -3,11 +3,12 @@ use Rattle.std.specs.Prelude.{Result, Err, Option}
 use Rattle.ht_ports.specs.declared.ports.InPort.TheVariants.{Report, Proofs}
 use Rattle.ht_net.specs.Circuit.Netlist as net
 use Rattle.ht_faults.specs.Sites.{faults_of}
-use Rattle.ht_words.specs.Jobs.{options_by}
+use Rattle.ht_words.specs.Jobs.{asked_by}
+use Rattle.ht_words.specs.declared.job.Job.TheVariants as job_of
 use Rattle.ht_words.specs.declared.job.GenOptions.{GenOptions as Options}
 use Rattle.ht_files.proofs.PlainNameLaws.{plain_names}
 use Rattle.ht_app.proofs.Common.{Asked, DeskView, EndsJob, HasNetlist, HasReadTo, JobBasis, Rows, RunError, RunFiles}
-use Rattle.ht_app.proofs.Common.{Settings, Tern, WritesAll, gen}
+use Rattle.ht_app.proofs.Common.{Settings, Tern, WritesAll}
 use Rattle.ht_app.specs.Outputs.{search_of, settings_of}
 use Rattle.ht_app.proofs.EndLaws.{ends_unread}
 use Rattle.ht_app.proofs.PreparedLaws.{changes_read}
@@ -18,7 +19,7 @@ use Rattle.ht_app.proofs.generate.generate_chosen.Goals as goal
 use Rattle.ht_app.proofs.generate.generate_chosen.Goals.{After-len, In_ok-chosen}
 
 abbrev job : RunFiles → Options → Asked
-job f options = gen f.netlist f.tests f.report f.proofs (options_by options)
+job f options = asked_by (job_of.Gen f options)
 
 abbrev basis : net.Netlist → List Tern → List (List Bool) → List ℕ → JobBasis
 basis c start list chosen = record (basis_from c start list []) { chosen = chosen }
@@ -35,7 +36,8 @@ to_faults : (f : RunFiles) (options : Options) {c : net.Netlist} {start : List T
     {before now : DeskView} → HasNetlist c → HaveRead f options c start list before now → (chosen : List ℕ)
     → HasReadTo (job f options) (basis c start list chosen) 5 before now
 to_faults f options {c = c} {start = start} {list = list} netlist read chosen =
-    skipped (skipped (read (basis c start list chosen) refl refl refl) Report refl refl netlist) Proofs refl refl netlist
+    skipped (skipped (read (basis c start list chosen) refl refl refl) Report refl refl netlist) Proofs refl refl
+    netlist
 
 -- how many faults there are
 counted : (g : given.Over) (c : After-len g) → length (faults_of c.args.circuit.now) ≡ c.len.result
@@ -62,10 +64,10 @@ returns-in_err-chosen g c = λ before read.
     let options = c.args.options.now in
     let ends = ends_unread (c.in_err-chosen.ensures.stopped (job f options)
     (basis c.args.circuit.now c.args.start.items c.args.first.list []) before refl
-    (counted g (goal.at.returns-in_err-chosen g c).After-len) (to_faults f options c.requires.netlist read [])) in
+    (counted g (goal.at.returns-in_err-chosen g c).After-len) tt (to_faults f options c.requires.netlist read [])) in
     let is : c.from_residual.result ≡ Err c.in_err-chosen.field-0.0 = search rules in
     subst (λ (r : Result (Unit {0}) RunError). EndsJob (job f options) r before (g.D.Desk.view c.read_chosen.new.desk))
-    (sym is) ends
+        (sym is) ends
 
 -- ---- the files are written
 
@@ -89,11 +91,11 @@ settings o start first chosen = record {
 
 are_settings : (g : given.Over) (c : In_ok-chosen g)
     → settings c.args.options.now c.args.start.items c.args.first c.in_ok-chosen.chosen
-    ≡ settings_of (told g c) (options_by c.args.options.now)
+    ≡ settings_of (told g c) (job c.args.files.now c.args.options.now)
 are_settings g c =
     let o = c.args.options.now in
     ap (λ (v : Rows). settings o c.args.start.items v c.in_ok-chosen.chosen)
-    (given_first c.args.first o.first c.args.circuit.now.inputs c.requires.width c.requires.none)
+        (given_first c.args.first o.first c.args.circuit.now.inputs c.requires.width c.requires.none)
     ∙ ap (settings o c.args.start.items _)
     (given_numbers c.in_ok-chosen.chosen o.faults c.in_ok-chosen.ensures.named)
 
@@ -107,10 +109,9 @@ ends : (g : given.Over) (c : In_ok-chosen g) {before : DeskView}
     → EndsJob (job c.args.files.now c.args.options.now) result before b
 ends g c read told_settings are result b w =
     let f = c.args.files.now in
-    let options = options_by c.args.options.now in
+    let options = c.args.options.now in
     let reads = all_reads g c read in
-    ends_files f.netlist f.tests f.report f.proofs options (changes_read reads) (accepts_all reads
-    (no_more f.netlist f.tests f.report f.proofs options) c.requires.netlist) result
+    ends_files f options (changes_read reads) (accepts_all reads (no_more f options) c.requires.netlist) result
     (subst (λ (s : Settings). WritesAll f c.args.circuit.now s result (g.D.Desk.view c.read_chosen.new.desk) b)
     (are ∙ are_settings g c) w)
 

@@ -2,9 +2,10 @@ use Rattle.std.proofs.Common.{◌≡◌, ◌∙◌, [], List, Bool, refl, sym, a
 use Rattle.std.specs.Prelude.{Result, Err}
 use Rattle.ht_net.specs.Circuit.Netlist as net
 use Rattle.ht_net.specs.Detect.Detection.{unknown_state}
-use Rattle.ht_words.specs.Jobs.{options_by}
+use Rattle.ht_words.specs.Jobs.{asked_by}
+use Rattle.ht_words.specs.declared.job.Job.TheVariants as job_of
 use Rattle.ht_words.specs.declared.job.GenOptions.{GenOptions as Options}
-use Rattle.ht_app.proofs.Common.{Asked, DeskView, EndsJob, HasReadTo, JobBasis, RunError, RunFiles, gen}
+use Rattle.ht_app.proofs.Common.{Asked, DeskView, EndsJob, HasReadTo, JobBasis, RunError, RunFiles}
 use Rattle.ht_inputs.specs.Inputs.{IsStated}
 use Rattle.ht_inputs.specs.declared.run_error.RunError.TheVariants.{NoMemory}
 use Rattle.ht_app.proofs.EndLaws.{ends_unread}
@@ -14,7 +15,7 @@ use Rattle.ht_app.proofs.generate.generate_for.Goals as goal
 use Rattle.ht_app.proofs.generate.generate_for.Goals.{In_ok-first, In_ok-start}
 
 abbrev job : RunFiles → Options → Asked
-job f options = gen f.netlist f.tests f.report f.proofs (options_by options)
+job f options = asked_by (job_of.Gen f options)
 
 -- ---- the files, one after the other
 
@@ -39,8 +40,7 @@ first_reads : (g : given.Over) (c : In_ok-first g) {first : DeskView}
     → b.content.list ≡ c.in_ok-first.first.list
     → HasReadTo (job c.args.files.now c.args.options.now) b 3 first (g.D.Desk.view c.read_first.new.desk)
 first_reads g c {first = first} read b circuit starts lists =
-    let f = c.args.files.now in
-    c.in_ok-first.ensures.read f.netlist f.tests f.report f.proofs (options_by c.args.options.now) b first refl circuit
+    c.in_ok-first.ensures.read (job c.args.files.now c.args.options.now) b first refl refl circuit
     (start_reads g (goal.at.In_ok-first g c).In_ok-start read b circuit starts) lists
 
 -- ---- a file ends the run
@@ -48,17 +48,17 @@ first_reads g c {first = first} read b circuit starts lists =
 pub returns-in_err-start : goal.returns-in_err-start
 returns-in_err-start g c = λ first read.
     let told = basis_of c.args.circuit.now [] [] in
-    let ends = ends_unread (c.in_err-start.ensures.stopped (job c.args.files.now c.args.options.now) told first refl refl
+    let ends = ends_unread (c.in_err-start.ensures.stopped
+    (job c.args.files.now c.args.options.now) told first refl refl
     refl (read told refl (λ none. refl))) in
     search (rules, ends)
 
 pub returns-in_err-first : goal.returns-in_err-first
 returns-in_err-first g c = λ first read.
-    let f = c.args.files.now in
     let told = basis_from c.args.circuit.now c.in_ok-start.start.items [] [] in
     let before = start_reads g (goal.at.returns-in_err-first g c).In_ok-start read told refl refl in
-    let ends = ends_unread (c.in_err-first.ensures.stopped f.netlist f.tests f.report f.proofs
-    (options_by c.args.options.now) told first refl refl before) in
+    let ends = ends_unread (c.in_err-first.ensures.stopped (job c.args.files.now c.args.options.now) told first refl
+    refl refl tt before) in
     search (rules, ends)
 
 pub returns-in_err-listed : goal.returns-in_err-listed
@@ -68,7 +68,7 @@ returns-in_err-listed g c = λ first read.
     refl)) in
     let is : c.from_residual-in_err-listed.result ≡ Err NoMemory = search rules in
     subst (λ (r : Result (Unit {0}) RunError). EndsJob (job c.args.files.now c.args.options.now) r first
-    (g.D.Desk.view c.read_first.new.desk)) (sym is) ends
+        (g.D.Desk.view c.read_first.new.desk)) (sym is) ends
 
 -- ---- all were read
 

@@ -2,7 +2,8 @@ use Rattle.std.proofs.Common.{◌≡◌, ◌≤◌, List, [], ℕ, Option, true,
 use Rattle.std.proofs.lemmas.Result.{IfOk-weaker}
 use Rattle.std.specs.Prelude.{None, Some}
 use Rattle.ht_app.proofs.Common.{Asked, Content, HasReadTo, InPort, Numbered, RunFiles, Said, input_name, order_of}
-use Rattle.ht_asked.specs.Asked as asked
+use Rattle.ht_words.specs.Jobs.{asked_by}
+use Rattle.ht_words.specs.declared.job.Job.TheVariants as job_of
 use Rattle.ht_ports.specs.declared.ports.InPort.TheVariants as in_port
 use Rattle.ht_ports.specs.declared.ports.InPort.TheVariants.{Faults, Netlist}
 use Rattle.ht_files.proofs.PlainNameLaws.{plain_names}
@@ -18,7 +19,7 @@ use Rattle.ht_app.proofs.report.report.Goals as goal
 use Rattle.ht_app.proofs.report.report.Goals.{In_ok-claims, In_ok-graded}
 
 abbrev job : RunFiles → ℕ → Option (List ℕ) → Asked
-job files budget start = asked.report files.netlist files.tests files.proofs files.report budget start
+job files budget start = asked_by (job_of.Report files budget start)
 
 judges : (files : RunFiles) (budget : ℕ) (start : Option (List ℕ)) → JudgesFiles (job files budget start) files start
 judges files budget start = record {
@@ -32,7 +33,8 @@ judges files budget start = record {
   vectors = λ basis text is. is;
 }
 
-no_more : (files : RunFiles) (budget : ℕ) (start : Option (List ℕ)) (p : InPort) → 5 ≤ order_of (job files budget start) p
+no_more : (files : RunFiles) (budget : ℕ) (start : Option (List ℕ)) (p : InPort) → 5 ≤ order_of
+    (job files budget start) p
     → input_name (job files budget start) p ≡ None
 no_more files budget start Netlist late = absurd (omega (arith, late))
 no_more files budget start Faults late = refl
@@ -91,11 +93,11 @@ read_verdicts-requires-clause-graded g c = c.in_ok-graded.ensures.graded.of_circ
 
 pub returns-in_err-claims : goal.returns-in_err-claims
 returns-in_err-claims g c =
-    let f = c.args.files.now in
     let at = goal.at.returns-in_err-claims g c in
     let ends = stops_there (vectors_read g at.In_ok-graded [] []) refl (ap Some (sym c.as_str.ensures))
-    c.in_err-claims.ensures.frame (λ is. tt) c.in_err-claims.field-0.0 (c.in_err-claims.ensures.stops f.netlist f.tests
-    f.proofs f.report c.args.start.now (said g at.In_ok-graded [] []) refl refl c.in_ok-graded.ensures.graded.first) in
+    c.in_err-claims.ensures.frame (λ is. tt) c.in_err-claims.field-0.0 (c.in_err-claims.ensures.stops
+    (job c.args.files.now c.args.budget c.args.start.now) (said g at.In_ok-graded [] []) refl refl refl refl
+    c.in_ok-graded.ensures.graded.first) in
     record { made = search rules; stopped = search (rules, ends) }
 
 -- ---- the report
@@ -136,5 +138,5 @@ returns g c =
         verdicts = true_verdicts _ _ _ of.circuit of.classes of.latches is.are.justified;
         decided = are_decided _ _ _ of.circuit of.latches is.are.justified;
       },
-      record { body = _; total = _; so = so; acts_are = refl },
+      (c.args.files.now.report, refl, record { body = _; total = _; so = so; acts_are = refl }),
     )) (rw is.budget at c.report_texts-made.ensures))

@@ -1,11 +1,14 @@
 use Rattle.std.proofs.Common.{List, [], ℕ, refl, rules}
 use Rattle.std.specs.Prelude.{Option}
-use Rattle.ht_app.proofs.Common.{PermitsAll, respond, response_acts, writing}
+use Rattle.ht_app.proofs.Common.{PermitsAll, response_acts, writing}
 use Rattle.ht_app.proofs.EndLaws.{ends_by, ends_unread}
 use Rattle.ht_app.proofs.respond.respond.Goals as goal
+use Rattle.ht_words.specs.Jobs.{asked_by}
+use Rattle.ht_words.specs.declared.job.Job.TheVariants as job_of
 
 permitted : (netlist tests out : List ℕ) (number : Option ℕ) (start : Option (List ℕ)) (body said last : List ℕ)
-    → PermitsAll (writing (respond netlist tests out number start)) [] (response_acts out body said last)
+    → PermitsAll (writing (asked_by (job_of.Respond netlist tests out number start))) []
+    (response_acts out body said last)
 permitted netlist tests out number start body said last = (
   (refl, refl),
   ((refl, λ file. refl), ((refl, λ file. absurd file), ((refl, λ file. refl), tt))),
@@ -13,7 +16,8 @@ permitted netlist tests out number start body said last = (
 
 pub returns-in_err-texts : goal.returns-in_err-texts
 returns-in_err-texts g c =
-    let ends = ends_unread (rw (c.as_str.ensures, c.as_str-2.ensures) at (c.in_err-texts.ensures c.args.out.now)).stopped in
+    let ends = ends_unread (rw (c.as_str.ensures, c.as_str-2.ensures) at
+    (c.in_err-texts.ensures c.args.out.now)).stopped in
     search (rules, ends)
 
 pub returns : goal.returns

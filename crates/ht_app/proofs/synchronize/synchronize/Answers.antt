@@ -1,10 +1,13 @@
 use Rattle.std.proofs.Common.{List, [], ℕ, refl, rules}
-use Rattle.ht_app.proofs.Common.{PermitsAll, sync, sync_acts, writing}
+use Rattle.ht_app.proofs.Common.{PermitsAll, sync_acts, writing}
 use Rattle.ht_app.proofs.EndLaws.{ends_by, ends_unread}
 use Rattle.ht_app.proofs.synchronize.synchronize.Goals as goal
+use Rattle.ht_words.specs.Jobs.{asked_by}
+use Rattle.ht_words.specs.declared.job.Job.TheVariants as job_of
 
 permitted : (netlist tests out : List ℕ) (budget : ℕ) (list body said last : List ℕ)
-    → PermitsAll (writing (sync netlist tests out budget)) [] (sync_acts tests out list body said last)
+    → PermitsAll (writing (asked_by (job_of.Sync netlist tests out budget))) []
+    (sync_acts tests out list body said last)
 permitted netlist tests out budget list body said last = (
   (refl, refl),
   (

@@ -1,31 +1,35 @@
 use Rattle.std.proofs.Common.{◌≡◌, ◌≤◌, List, [], ℕ, refl, sym, ap, rules, arith}
 use Rattle.std.specs.Prelude.{None, Some}
-use Rattle.ht_app.proofs.Common.{HasReadTo, InPort, input_name, order_of, uninit}
+use Rattle.ht_app.proofs.Common.{HasReadTo, InPort, input_name, order_of}
 use Rattle.ht_ports.specs.declared.ports.InPort.TheVariants.{Netlist}
 use Rattle.ht_inputs.proofs.ReadingLaws.{basis_of}
 use Rattle.ht_app.proofs.PreparedLaws.{prepares_file}
 use Rattle.ht_app.proofs.uninit.uninit.Given as given
 use Rattle.ht_app.proofs.uninit.uninit.Goals as goal
 use Rattle.ht_app.proofs.uninit.uninit.Goals.{In_ok-circuit}
+use Rattle.ht_words.specs.Jobs.{asked_by}
+use Rattle.ht_words.specs.declared.job.Job.TheVariants as job_of
 
 reads : (g : given.Over) (c : In_ok-circuit g) (out : List ℕ)
-    → HasReadTo (uninit c.args.netlist.now out c.args.budget) (basis_of c.in_ok-circuit.circuit [] []) 1
+    → HasReadTo (asked_by (job_of.Uninit c.args.netlist.now out c.args.budget))
+    (basis_of c.in_ok-circuit.circuit [] []) 1
     (g.D.Desk.view c.args.desk.now) (g.D.Desk.view c.read_netlist.new.desk)
-reads g c out = c.in_ok-circuit.ensures.read (uninit c.args.netlist.now out c.args.budget)
+reads g c out = c.in_ok-circuit.ensures.read (asked_by (job_of.Uninit c.args.netlist.now out c.args.budget))
     (basis_of c.in_ok-circuit.circuit [] []) (ap Some (sym c.as_str.ensures)) (λ none. refl) refl (λ text good. good)
 
-no_more : (netlist out : List ℕ) (budget : ℕ) (p : InPort) → 1 ≤ order_of (uninit netlist out budget) p
-    → input_name (uninit netlist out budget) p ≡ None
+no_more : (netlist out : List ℕ) (budget : ℕ) (p : InPort) → 1 ≤ order_of
+    (asked_by (job_of.Uninit netlist out budget)) p
+    → input_name (asked_by (job_of.Uninit netlist out budget)) p ≡ None
 no_more netlist out budget Netlist late = absurd (omega (arith, late))
 no_more netlist out budget p late = refl
 
 pub returns-in_err-circuit : goal.returns-in_err-circuit
 returns-in_err-circuit g c = λ out.
-    let ends = c.in_err-circuit.ensures.stops (uninit c.args.netlist.now out c.args.budget)
+    let ends = c.in_err-circuit.ensures.stops (asked_by (job_of.Uninit c.args.netlist.now out c.args.budget))
     (ap Some (sym c.as_str.ensures)) in
     record { made = search rules; stopped = search (rules, ends) }
 
 pub returns : goal.returns
 returns g c = λ out. prepares_file (reads g (goal.at.returns g c).In_ok-circuit out) _ _ _ _ _
-    (no_more c.args.netlist.now out c.args.budget) c.in_ok-circuit.ensures.netlist (λ acts is. is)
+    (no_more c.args.netlist.now out c.args.budget) c.in_ok-circuit.ensures.netlist (λ acts is. (out, refl, is))
     c.or_no_memory.ensures c.uninit_texts-made.ensures

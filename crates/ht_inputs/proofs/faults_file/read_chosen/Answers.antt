@@ -1,6 +1,6 @@
 use Rattle.std.proofs.Common.{◌≡◌, ◌∙◌, ap, sym, subst, List, ℕ, refl, rules, arith}
 use Rattle.std.specs.Prelude.{Some, option_map}
-use Rattle.ht_ports.specs.declared.ports.InPort.TheVariants.{Faults, Tests}
+use Rattle.ht_ports.specs.declared.ports.InPort.TheVariants.{Faults}
 use Rattle.ht_texts.specs.FaultListTexts.{IsFaultListText}
 use Rattle.ht_inputs.proofs.Common.{SaysBasis}
 use Rattle.ht_inputs.proofs.ReadingLaws.{one_more, read_so, skipped, stops_there}
@@ -17,13 +17,13 @@ returns-in_ok-read_fault_list-in-Some-clause-read g c = λ job basis first reads
     same ∙ ap (option_map (λ _. basis.chosen)) c.in-Some.is in
     let numbers : c.in_ok-read_fault_list-in-Some.field-0 ≡ basis.chosen = cc in
     subst (λ (n : ℕ). IsFaultListText n text basis.chosen) (sym count)
-    (subst (λ (l : List ℕ). IsFaultListText c.args.count text l) numbers is))
+        (subst (λ (l : List ℕ). IsFaultListText c.args.count text l) numbers is))
     (c.in_ok-read_fault_list-in-Some.ensures.read basis.circuit count))
 
 pub returns-in_err-read_fault_list-in-Some-clause-stopped : goal.returns-in_err-read_fault_list-in-Some-clause-stopped
-returns-in_err-read_fault_list-in-Some-clause-stopped g c = λ job basis first reads count before.
+returns-in_err-read_fault_list-in-Some-clause-stopped g c = λ job basis first reads count fault before.
     let ends = stops_there before refl (reads ∙ c.in-Some.is ∙ ap Some (sym c.as_str.ensures))
-    c.read_fault_list.ensures.frame (λ is. let same : Faults ≡ Tests = is in cc) _
+    c.read_fault_list.ensures.frame (λ late. fault) _
     (c.in_err-read_fault_list-in-Some.ensures.stops job basis count) in
     search (rules, ends)
 

@@ -1,10 +1,12 @@
-use Rattle.std.proofs.Common.{[], List, ℕ, refl, subst, sym, rules, ◌≡◌, ◌≢◌, ◌≤◌, length}
+use Rattle.std.proofs.Common.{arith, [], List, ℕ, refl, subst, sym, rules, ◌≡◌, ◌≢◌, ◌≤◌, length}
 use Rattle.ht_inputs.proofs.Common.{Asked, DeskView, HasNetlist, HasReadTo, IsGoodNetlist, IsNetlistOf, JobBasis}
 use Rattle.ht_inputs.proofs.Common.{ReadStops, SaysBasis, WasRead, max_netlist_bytes}
 use Rattle.ht_bench.specs.Text.{Refuses, IsOfNoCircuit}
 use Rattle.ht_ports.specs.declared.ports.InPort.TheVariants.{Netlist, Tests}
 use Rattle.ht_inputs.specs.Errors.{run_error_of}
+use Rattle.std.specs.Prelude.{Bool, false, true}
 use Rattle.ht_inputs.specs.Inputs.{IsStated}
+use Rattle.ht_inputs.specs.Jobs.{may_state_start, place_of}
 use Rattle.ht_inputs.proofs.ReadingLaws.{basis_of, no_circuit, nothing_read, one_more, read_so, stops_there}
 use Rattle.ht_inputs.proofs.netlist.read_netlist.Goals.{In_ok-circuit, Start}
 use Rattle.ht_bench.specs.declared.error.BenchError.{BenchError}
@@ -36,8 +38,9 @@ module _ (name : List ℕ) (a b : DeskView) (text : List ℕ) (job : Asked) (bas
   netlist_refused error vain = (refl, refuses error (λ e. cc) vain vain.none)
 
 -- no fault has to be found before the netlist
-not_tests : {A : Type 0} → Netlist ≡ Tests → A
-not_tests is = cc
+not_tests : {A : Type 0} (starts : Bool) → place_of Tests starts ≤ 0 → A
+not_tests true late = absurd (omega (arith, late))
+not_tests false late = absurd (omega (arith, late))
 
 -- before it is opened
 unread : (g : given.Over) (c : Start g) (job : Asked) (basis : JobBasis) → IsStated job basis
@@ -48,8 +51,10 @@ unread g c job basis stated = nothing_read job basis (g.D.Desk.view c.args.desk.
 pub returns-in_err-text-clause-stops : goal.returns-in_err-text-clause-stops
 returns-in_err-text-clause-stops g c = λ job is.
     let basis = basis_of no_circuit [] [] in
-    let stops = stops_there (unread g (goal.at.returns-in_err-text-clause-stops g c).Start job basis (λ none. refl)) refl is
-    c.in_err-text.ensures.frame not_tests c.in_err-text.field-0.0 (c.in_err-text.ensures.stops job basis) in
+    let stops = stops_there (unread g (goal.at.returns-in_err-text-clause-stops g c).Start job basis
+    (λ none. refl)) refl is
+    c.in_err-text.ensures.frame (not_tests (may_state_start job)) c.in_err-text.field-0.0
+    (c.in_err-text.ensures.stops job basis) in
     search (rules, stops)
 
 pub returns-in_err-circuit-clause-stops : goal.returns-in_err-circuit-clause-stops
@@ -59,8 +64,10 @@ returns-in_err-circuit-clause-stops g c = λ job is.
     let error = c.in_err-circuit.field-0.0 in
     let refused = subst (λ (t : List ℕ). Refuses t error) c.deref.ensures.value c.in_err-circuit.ensures.refusal in
     let none = subst (λ (t : List ℕ). IsOfNoCircuit t error) c.deref.ensures.value c.in_err-circuit.ensures.excludes in
-    let stops = stops_there (unread g (goal.at.returns-in_err-circuit-clause-stops g c).Start job basis (λ none. refl)) refl is
-    read.frame not_tests (run_error_of error) (netlist_refused c.args.name.now (g.D.Desk.view c.args.desk.now)
+    let stops = stops_there (unread g (goal.at.returns-in_err-circuit-clause-stops g c).Start job basis
+    (λ none. refl)) refl is
+    read.frame (not_tests (may_state_start job)) (run_error_of error)
+    (netlist_refused c.args.name.now (g.D.Desk.view c.args.desk.now)
     (g.D.Desk.view c.read_text.new.desk) c.in_ok-text.text.items job basis error
     (record { read = read.read; short = read.within; refused = refused; none = none })) in
     search (rules, stops)

@@ -1,5 +1,11 @@
-use Rattle.std.proofs.Common.{◌≡◌, [], List, ◌∙◌, refl, sym, rules}
-use Rattle.ht_inputs.proofs.Common.{Content, Numbered, before_proofs, check, check_basis}
+use Rattle.std.proofs.Common.{◌≡◌, [], List, ◌∙◌, ap, subst, sym, rules}
+use Rattle.ht_inputs.proofs.Common.{Content, Numbered, before_proofs, check_basis}
+use Rattle.std.specs.Prelude.{None, Some, if◌then◌else◌}
+use Rattle.ht_asked.specs.Asked.{Kind, check}
+use Rattle.ht_ports.specs.declared.ports.InPort.TheVariants.{Proofs}
+use Rattle.ht_valid.specs.FirstTrouble.{IsFirstFault, IsFirstProofLine}
+use Rattle.ht_inputs.specs.Jobs.{judges}
+use Rattle.ht_inputs.specs.Refusals.{IsTroubleFor}
 use Rattle.ht_inputs.specs.Judging.{AgreeWithTests, ProofsAreRead}
 use Rattle.ht_judge.specs.ProofJudging.{JudgesProofs}
 use Rattle.ht_inputs.proofs.JudgedLaws.{same_circuit}
@@ -20,13 +26,19 @@ begins g c content start budget saids =
       saids = saids ∙ sym made.saids;
     })
 
+at_proofs : {kind : Kind} → kind ≡ check → (if judges kind then Some Proofs else None) ≡ Some Proofs
+at_proofs is = ap (λ (k : Kind). if judges k then Some Proofs else None) is
+
 pub returns-in_err-judge_proofs-clause-stops : goal.returns-in_err-judge_proofs-clause-stops
-returns-in_err-judge_proofs-clause-stops g c = λ netlist tests report proofs start_file content start budget saids.
+returns-in_err-judge_proofs-clause-stops g c = λ job content is_check start budget saids.
     let at = (goal.at.returns-in_err-judge_proofs-clause-stops g c).After-new-judge in
     let basis = check_basis c.args.graded.now.circuit c.args.graded.now.listed.classes content in
     let stops = job_stops c.args.name.now basis (g.D.Desk.view c.args.desk.now) (g.D.Desk.view c.judge_proofs.new.desk)
-    (check netlist tests report proofs start_file) (λ line. refl) (λ number. refl) (λ text line first. first)
-    (λ text number first. first) c.in_err-judge_proofs.field-0.0
+    job (λ line. at_proofs is_check) (λ number. at_proofs is_check)
+    (λ text line first. subst (λ (k : Kind). IsFirstProofLine (IsTroubleFor k job.numbers.budget basis) text line)
+    (sym is_check) first)
+    (λ text number first. subst (λ (k : Kind). IsFirstFault (IsTroubleFor k job.numbers.budget basis) text number)
+    (sym is_check) first) c.in_err-judge_proofs.field-0.0
     (c.in_err-judge_proofs.ensures.stops basis (record {
       circuit = c.new-judge.ensures.circuit;
       representatives = c.new-judge.ensures.classes;
@@ -38,7 +50,8 @@ pub returns-clause-read : goal.returns-clause-read
 returns-clause-read g c = λ content start budget saids agrees.
     let at = (goal.at.returns-clause-read g c).After-new-judge in
     let made = c.new-judge.ensures in
-    same_circuit (λ circuit r. (entries : List Numbered) × ProofsAreRead circuit r (record content { entries = entries })
+    same_circuit (λ circuit r. (entries : List Numbered) × ProofsAreRead circuit r
+        (record content { entries = entries })
     c.args.name.now (g.D.Desk.view c.args.desk.now)) made.circuit made.classes
     (c.in_ok-judge_proofs.ensures.claimed content (begins g at content start budget saids)
     (same_circuit (λ c r. AgreeWithTests c r content) (sym made.circuit) (sym made.classes) agrees))

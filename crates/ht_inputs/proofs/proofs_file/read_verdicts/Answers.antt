@@ -1,11 +1,13 @@
-use Rattle.std.proofs.Common.{◌≡◌, ℕ, List, [], ◌∙◌, Option, refl, sym, subst}
-use Rattle.std.specs.Prelude.{IfOk}
+use Rattle.std.proofs.Common.{◌≡◌, ℕ, List, [], ◌∙◌, ap, Option, sym, subst}
+use Rattle.std.specs.Prelude.{IfOk, None, Some, if◌then◌else◌}
 use Rattle.std.proofs.lemmas.Result.{IfErr-weaker}
 use Rattle.ht_inputs.proofs.Common.{AreFirstDetections, Content, ReadStops, Tern, before_proofs}
 use Rattle.ht_ports.specs.declared.ports.InPort.TheVariants.{Proofs}
-use Rattle.ht_asked.specs.Asked as asked
+use Rattle.ht_asked.specs.Asked.{Kind, report}
+use Rattle.ht_inputs.specs.Jobs.{judges}
+use Rattle.ht_inputs.specs.Refusals.{IsTroubleFor}
 use Rattle.ht_net.specs.declared.place.Place.{Place}
-use Rattle.ht_valid.specs.FirstTrouble.{EndsWrongEntry, IsEvidence, IsFirstFault, IsFirstProofLine}
+use Rattle.ht_valid.specs.FirstTrouble.{IsFirstFault, IsFirstProofLine}
 use Rattle.ht_inputs.specs.Grading.{HasDetections}
 use Rattle.ht_inputs.specs.Judging.{VerdictsAreRead, report_basis}
 use Rattle.ht_judge.specs.ProofJudging.{FollowsProofs}
@@ -28,20 +30,24 @@ begins g c content start budget first =
     (subst (λ (s : List Tern). AreFirstDetections graded.circuit graded.listed.classes s content.list
     graded.places.items) same first))
 
+at_proofs : {kind : Kind} → kind ≡ report → (if judges kind then Some Proofs else None) ≡ Some Proofs
+at_proofs is = ap (λ (k : Kind). if judges k then Some Proofs else None) is
+
 pub returns-clause-stops : goal.returns-clause-stops
-returns-clause-stops g c = λ netlist tests proofs out start_file content start budget first.
+returns-clause-stops g c = λ job content is_report same_budget start budget first.
     let at = (goal.at.returns-clause-stops g c).In_ok-judge in
     let graded = c.args.graded.now in
     let basis = report_basis graded.circuit graded.listed.classes content in
     let old = g.D.Desk.view c.args.desk.now in
     let new = g.D.Desk.view c.judge_proofs.new.desk in
-    let job = asked.report netlist tests proofs out c.args.budget start_file in
     IfErr-weaker c.judge_proofs.result _ (ReadStops job basis Proofs c.args.name.now old new)
-    (job_stops c.args.name.now basis old new job (λ line. refl) (λ number. refl)
-    (λ text line. subst (λ (b : ℕ). IsFirstProofLine (EndsWrongEntry (IsEvidence graded.circuit graded.listed.classes
-    content.start content.list b)) text line) budget)
-    (λ text number. subst (λ (b : ℕ). IsFirstFault (EndsWrongEntry (IsEvidence graded.circuit graded.listed.classes
-    content.start content.list b)) text number) budget))
+    (job_stops c.args.name.now basis old new job (λ line. at_proofs is_report) (λ number. at_proofs is_report)
+    (λ text line first. subst (λ (k : Kind). IsFirstProofLine (IsTroubleFor k job.numbers.budget basis) text line)
+    (sym is_report) (subst (λ (b : ℕ). IsFirstProofLine (IsTroubleFor report b basis) text line)
+    (budget ∙ sym same_budget) first))
+    (λ text number first. subst (λ (k : Kind). IsFirstFault (IsTroubleFor k job.numbers.budget basis) text number)
+    (sym is_report) (subst (λ (b : ℕ). IsFirstFault (IsTroubleFor report b basis) text number)
+    (budget ∙ sym same_budget) first)))
     (c.judge_proofs.ensures.stops basis (record {
       circuit = c.in_ok-judge.ensures.circuit;
       representatives = c.in_ok-judge.ensures.classes;

@@ -10,7 +10,8 @@ use Rattle.ht_inputs.proofs.report_file.read_report.Goals.{In_ok-judge}
 -- the judge stands for the beginning of a report that agrees with the tests
 start : (g : given.Over) (c : In_ok-judge g) (content : Content)
     → HasDetections c.args.graded.now content.start content.list
-    → StandsForReport c.in_ok-judge.judge (check_basis c.args.graded.now.circuit c.args.graded.now.listed.classes content) []
+    → StandsForReport c.in_ok-judge.judge (check_basis c.args.graded.now.circuit c.args.graded.now.listed.classes
+    content) []
 start g c content first =
     let made = c.in_ok-judge.ensures in
     record {
@@ -23,20 +24,20 @@ start g c content first =
     }
 
 pub returns-in_err-read_lines-clause-stops : goal.returns-in_err-read_lines-clause-stops
-returns-in_err-read_lines-clause-stops g c = λ netlist tests report proofs start_file content first names.
+returns-in_err-read_lines-clause-stops g c = λ job content judged first names.
     let at = goal.at.returns-in_err-read_lines-clause-stops g c in
     let basis = check_basis c.args.graded.now.circuit c.args.graded.now.listed.classes content in
-    let stops = report_stops netlist tests report proofs start_file c.args.name.now basis c.requires.circuit
+    let stops = report_stops job judged c.args.name.now basis c.requires.circuit
     (g.D.Desk.view c.args.desk.now) (g.D.Desk.view c.read_lines.new.desk) c.requires.classes names
     (c.in_err-read_lines.ensures.stops basis (start g at.In_ok-judge content first)) in
     search (rules, stops)
 
 pub returns-in_err-claims-clause-stops : goal.returns-in_err-claims-clause-stops
-returns-in_err-claims-clause-stops g c = λ netlist tests report proofs start_file content first names.
+returns-in_err-claims-clause-stops g c = λ job content judged first names.
     let at = goal.at.returns-in_err-claims-clause-stops g c in
     let basis = check_basis c.args.graded.now.circuit c.args.graded.now.listed.classes content in
     let read = c.in_ok-read_lines.ensures.stands basis (start g at.In_ok-judge content first) in
-    let stops = report_ends netlist tests report proofs start_file c.args.name.now basis c.requires.circuit
+    let stops = report_ends job judged c.args.name.now basis c.requires.circuit
     (g.D.Desk.view c.args.desk.now) (g.D.Desk.view c.read_lines.new.desk) read
     c.in_err-claims.field-0.0 (c.in_err-claims.ensures.err content.start content.list read.lines read.stands.judges) in
     search (rules, stops)

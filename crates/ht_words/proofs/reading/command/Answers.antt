@@ -1,7 +1,8 @@
 use Rattle.std.proofs.Common.{◌≡◌, ◌∙◌, ap, sym, subst, Option, rules}
 use Rattle.std.specs.Prelude.{option_and_then, option_map}
 use Rattle.clap.specs.Words.{app_of, found_of, rows_of}
-use Rattle.ht_asked.specs.Asked.{Asked, asked, command_named, words_of}
+use Rattle.ht_asked.specs.Asked.{Asked}
+use Rattle.ht_asked.specs.Commands.{asked, command_named, words_of}
 use Rattle.ht_asked.specs.ByClap.{asked_in_rows}
 use Rattle.ht_asked.proofs.AskedByClap.{asked_is_by_clap}
 use Rattle.ht_asked.proofs.Answered.{answered_words, no_words, refused_words, undefined_words}
