@@ -12,7 +12,7 @@ use Rattle.ht_inputs.specs.declared.run_error.RunError.{RunError}
 use Rattle.ht_inputs.specs.declared.run_error.RunError.TheVariants.{Denied, Usage, TooLong, Refused, ReadFault, WriteFault, NoMemory, BadStart, BadTests, TooManyVectors, BadResponses, NoSuchFault, BadFaults}
 use Rattle.ht_inputs.specs.Errors.{exit_status}
 use Rattle.ht_inputs.specs.Inputs.{AcceptsInputs, JobBasis}
-use Rattle.ht_inputs.specs.Reading.{StopsReading}
+use Rattle.ht_inputs.specs.Reading.{LacksMemory, StopsReading}
 use Rattle.ht_app.specs.Acts.{Act, Did, Stops}
 use Rattle.ht_app.specs.Outputs.{BeginsOutput, MakesOutput}
 
@@ -57,11 +57,12 @@ pub record StopsForMemory (job : Asked) (old new : DeskView) : Type 0 where
 
 -- ---- the causes
 
--- Why the work of a job ends by an error. Memory may run out at any time: before anything is written, or while the
--- output is begun. Any other error but a failed write is one of reading.
+-- Why the work of a job ends by an error. Memory may run out at any time: before anything is written, at a file or
+-- after them, or while the output is begun. Any other error but a failed write is one of reading.
 abbrev pub HasCause : Asked → DeskView → DeskView → RunError → Type 0
 HasCause job old new WriteFault = FailsToWrite job old new
-HasCause job old new NoMemory = Did [] old new ⊎ StopsForMemory job old new
+HasCause job old new NoMemory =
+    (Did [] old new × LacksMemory job old new) ⊎ StopsForMemory job old new
 HasCause job old new error = StopsReading job old new error
 
 -- The same where words ask for a job or for none. Where they have no form, the desk isn't touched; memory may run out

@@ -9,9 +9,9 @@ use Rattle.ht_inputs.proofs.Common.{Usage, WasRead, WriteFault, after_trans, inp
 use Rattle.ht_ports.specs.declared.ports.InPort.TheVariants.{Netlist, Tests, Report, Proofs, Faults}
 use Rattle.ht_net.specs.Circuit.Netlist as net
 use Rattle.ht_inputs.specs.declared.run_error.RunError.TheVariants.{NoMemory, NoSuchFault}
-use Rattle.ht_inputs.specs.Reading.{OnlyReads}
-use Rattle.ht_net.specs.Detect.Detection.{unknown_state}
-use Rattle.ht_inputs.specs.Inputs.{HasFault, IsStated, IsUnread}
+use Rattle.ht_inputs.specs.Reading.{LacksMemory, OnlyReads}
+use Rattle.ht_net.specs.Detect.Detection.{IsStart, unknown_state}
+use Rattle.ht_inputs.specs.Inputs.{AreVectorsOf, HasFault, IsStated, IsUnread}
 use Rattle.ht_inputs.specs.Refusals.{NamesAbove}
 use Rattle.ht_inputs.specs.Jobs.{may_state_start, place_of}
 
@@ -199,6 +199,7 @@ module _ {job : Asked} {basis : JobBasis} {place : ℕ} {a m : DeskView} (h : Ha
     unfolding refuses
     stops_reading fault Usage stops = absurd stops
     stops_reading fault ReadFault stops = record {
+      unread = λ p after. unread_at p (omega (arith, after, at));
       rose = omega (arith, h.reads.after.in_faults, stops.rose);
       basis = basis;
       port = port;
@@ -214,7 +215,14 @@ module _ {job : Asked} {basis : JobBasis} {place : ℕ} {a m : DeskView} (h : Ha
           (h.accepts p (omega (arith, before, at)) n reads).there;
     }
     stops_reading fault WriteFault stops = absurd stops
-    stops_reading fault NoMemory stops = tt
+    stops_reading fault NoMemory stops = record {
+      basis = basis;
+      place = place;
+      circuit = h.netlist;
+      stated = h.stated;
+      before = h.accepts;
+      unread = λ p after. unread_at p (omega (arith, after));
+    }
     stops_reading fault (BadTests line) stops = (refuses (BadTests line) (stops.0, stops.1), stops.2)
     stops_reading fault (NoSuchFault faults) stops = let none : None ≡ Some port = stops.0 in cc
     stops_reading fault e stops = refuses e stops
@@ -232,7 +240,18 @@ module _ {job : Asked} {basis : JobBasis} {place : ℕ} {a m : DeskView} (h : Ha
 
   -- reading may end for want of memory after any files that were read
   pub no_room : EndsReading job a m NoMemory
-  no_room = record { reads = h.reads; others = h.others; cause = tt }
+  no_room = record {
+    reads = h.reads;
+    others = h.others;
+    cause = record {
+      basis = basis;
+      place = place;
+      circuit = h.netlist;
+      stated = h.stated;
+      before = h.accepts;
+      unread = λ p after. h.unread p (omega (arith, after));
+    };
+  }
 
   -- the fault that the job names isn't one of the circuit
   pub lacks_there : (faults : ℕ) → order_of job Tests ≡ place → 0 < place → NamesAbove job basis.circuit faults
@@ -252,14 +271,17 @@ module _ {job : Asked} {basis : JobBasis} {place : ℕ} {a m : DeskView} (h : Ha
 
   -- a job that has read all files in its order accepts its inputs
   pub accepts_all : ((p : InPort) → place ≤ order_of job p → input_name job p ≡ None) → HasNetlist basis.circuit
+      → IsStart basis.circuit basis.content.start → AreVectorsOf basis.circuit basis.content.list
       → AcceptsInputs job basis a
-  accepts_all rest netlist = record {
+  accepts_all rest netlist latches widths = record {
     each = λ p name is. elim (cases_lt (order_of job p) place) [
       | inl before ↦ h.accepts p before name is
       | inr after ↦ let none : None ≡ Some name = sym (rest p after) ∙ is in cc
     ];
     stated = h.stated;
     circuit = λ some. netlist;
+    latches = latches;
+    widths = widths;
   }
 
 -- ---- what files are first read for
@@ -282,6 +304,17 @@ basis_from c start list rows = record {
 -- that of a job that states no start
 abbrev pub basis_of : net.Netlist → List (List Bool) → List (List Tern) → JobBasis
 basis_of c = basis_from c (unknown_state c)
+
+-- memory may run out before any file is opened
+pub lacks_at_first : (job : Asked) (a : DeskView) → LacksMemory job a a
+lacks_at_first job a = record {
+  basis = basis_of no_circuit [] [];
+  place = 0;
+  circuit = λ some. absurd (omega (arith, some));
+  stated = λ none. refl;
+  before = λ p early. absurd (omega (arith, early));
+  unread = λ p after. record { left = refl; is_open = refl };
+}
 
 -- why reading tests ends a job that refuses a malformed line of them
 pub tests_stop : (job : Asked) (basis : JobBasis) (most : ℕ) (name : List ℕ) (a b : DeskView)

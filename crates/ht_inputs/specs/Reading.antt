@@ -70,8 +70,8 @@ pub record HasReadTo (job : Asked) (basis : JobBasis) (place : ℕ) (old new : D
 
 -- ---- why reading ends a run
 
--- A fault of reading was counted at a file of the job, after those before it were accepted; at the tests, after the fault
--- that the job names was found. A steady desk makes one only where it doesn't hold the file; it holds those before.
+-- A fault of reading was counted at a file of the job, after those before it were accepted, and those after it weren't
+-- opened; at the tests, after the fault that the job names was found. A steady desk makes one only where it doesn't hold the file; it holds those before.
 pub record FailsToRead (job : Asked) (old new : DeskView) : Type 0 where
   pub rose : Rose old.in_faults new.in_faults
   pub basis : JobBasis
@@ -85,14 +85,24 @@ pub record FailsToRead (job : Asked) (old new : DeskView) : Type 0 where
   pub lacks : IsTrue old.steady → ¬ Holds old name
   pub held : IsTrue old.steady → (p : InPort) (n : List ℕ) → order_of job p < order_of job port → input_name job p ≡ Some n
       → Holds old n
+  pub unread : (p : InPort) → order_of job port < order_of job p → IsUnread p old new
 
--- Why reading the files of a job ends its run by an error. Memory may run out at any time. Tests are refused only where
+-- Memory ran out at a place in the order: the files before it were accepted, and those after it weren't opened.
+pub record LacksMemory (job : Asked) (old new : DeskView) : Type 0 where
+  pub basis : JobBasis
+  pub place : ℕ
+  pub circuit : 0 < place → HasNetlist basis.circuit
+  pub stated : IsStated job basis
+  pub before : (p : InPort) → order_of job p < place → AcceptsFile job basis p old
+  pub unread : (p : InPort) → place < order_of job p → IsUnread p old new
+
+-- Why reading the files of a job ends its run by an error. Memory may run out at any file. Tests are refused only where
 -- the fault that the job names is one of the circuit.
 abbrev pub StopsReading : Asked → DeskView → DeskView → RunError → Type 0
 StopsReading job old new Usage = ⊥
 StopsReading job old new ReadFault = FailsToRead job old new
 StopsReading job old new WriteFault = ⊥
-StopsReading job old new NoMemory = Unit {0}
+StopsReading job old new NoMemory = LacksMemory job old new
 StopsReading job old new (BadTests line) = (refuses : RefusesInput job (BadTests line) old new)
     × HasFault job refuses.basis.circuit
 StopsReading job old new (NoSuchFault faults) = LacksFault job faults old new

@@ -9,7 +9,7 @@ ghost use Rattle.ht_compact.specs.TestsToCompact.{IsTestTextToCompact};
 ghost use Rattle.ht_valid.specs.ValidFiles.{Content};
 ghost use Rattle.ht_asked.specs.Asked as asked;
 ghost use Rattle.ht_asked.specs.Asked.{GenOptions};
-ghost use Rattle.ht_inputs.specs.Inputs.{JobBasis, WasRead};
+ghost use Rattle.ht_inputs.specs.Inputs.{AreVectorsOf, JobBasis, WasRead};
 ghost use Rattle.ht_inputs.specs.Judging.{check_basis};
 ghost use Rattle.ht_inputs.specs.Reading.{AreVectorsUpTo, EndsReading, HasReadTo, ReadStops, TestsStop};
 
@@ -98,6 +98,7 @@ pub fn read_tests<D: Desk>(
     ensures frame { InCall in_port.Tests (D.view desk.old) (D.view desk.new) }
     ensures upto { IfOk result (λ list. length list.list ≤ most) }
     ensures width { IfOk result (λ list. list.width ≡ circuit.now.inputs) }
+    ensures widths { IfOk result (λ list. AreVectorsOf circuit.now list.list) }
     ensures few { IfOk result (λ list. length list.list ≤ max_text_bytes) }
     ensures read { IfOk result (λ list. WasRead in_port.Tests name.now
         (AreVectorsUpTo circuit.now most list.list) (D.view desk.old)) }
@@ -129,6 +130,7 @@ pub fn read_few_tests<D: Desk>(
     ensures read { IfOk result (λ list. WasRead in_port.Tests name.now
         (λ text. IsTestTextToCompact circuit.now text list.list) (D.view desk.old)) }
     ensures width { IfOk result (λ list. list.width ≡ circuit.now.inputs) }
+    ensures widths { IfOk result (λ list. AreVectorsOf circuit.now list.list) }
     ensures stops { (netlist tests out representatives : List ℕ) (content : Content)
         → IfErr result (ReadStops (asked.compact netlist tests out)
         (check_basis circuit.now representatives content) in_port.Tests name.now
@@ -153,6 +155,7 @@ pub fn read_first<D: Desk>(
 ) -> Result<Vectors, RunError>
     requires { IsCircuit circuit.now }
     ensures width { IfOk result (λ list. list.width ≡ circuit.now.inputs) }
+    ensures widths { IfOk result (λ list. AreVectorsOf circuit.now list.list) }
     ensures none { name.now ≡ None → IfOk result (λ list. list.list ≡ []) }
     ensures read { (netlist tests report proofs : List ℕ) (options : GenOptions) (basis : JobBasis)
         (first : DeskView) → options.first ≡ name.now → basis.circuit ≡ circuit.now

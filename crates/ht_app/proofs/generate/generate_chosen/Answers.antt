@@ -110,7 +110,8 @@ ends g c read told_settings are result b w =
     let options = options_by c.args.options.now in
     let reads = all_reads g c read in
     ends_files f.netlist f.tests f.report f.proofs options (changes_read reads) (accepts_all reads
-    (no_more f.netlist f.tests f.report f.proofs options) c.requires.netlist) result
+    (no_more f.netlist f.tests f.report f.proofs options) c.requires.netlist c.requires.latches
+    c.requires.widths) result
     (subst (λ (s : Settings). WritesAll f c.args.circuit.now s result (g.D.Desk.view c.read_chosen.new.desk) b)
     (are ∙ are_settings g c) w)
 
