@@ -1,5 +1,5 @@
 -- A job's files, read one after the other.
-use Rattle.std.proofs.Common.{◌≡◌, ◌≢◌, ◌<◌, ◌≤◌, ◌+◌, ◌⊎◌, ℕ, List, [], Bool, true, false, IsTrue, inl, inr, refl, sym, ◌∙◌, ap, subst, arith}
+use Rattle.std.proofs.Common.{◌≡◌, ◌≢◌, ◌<◌, ◌≤◌, ◌+◌, ◌⊎◌, ℕ, List, [], Bool, true, false, IsTrue, inl, inr, refl, sym, ◌∙◌, ap, subst, arith, le_refl}
 use Rattle.std.specs.Prelude.{IsSome, is_some, Option, Some, None}
 use Rattle.std.proofs.lemmas.Bool.{cases_lt}
 use Rattle.ht_inputs.proofs.Common.{AcceptsInputs, Asked, BadTests, DeskView, EndsReading, Extra, HasNetlist}
@@ -49,6 +49,7 @@ module _ {port : InPort} {a b : DeskView} (call : InCall port a b) where
   only_reads : OnlyReads a b
   only_reads = record {
     after = call.after;
+    out_faults = call.out_faults;
     file = call.file;
     written = call.written;
     named = call.named;
@@ -60,11 +61,16 @@ module _ {port : InPort} {a b : DeskView} (call : InCall port a b) where
   }
 
   unread_by : (p : InPort) → p ≢ port → IsUnread p a b
-  unread_by p ne = record { left = left_still p ne; is_open = call.is_open.others p ne }
+  unread_by p ne = record {
+    left = left_still p ne;
+    is_open = call.is_open.others p ne;
+    in_faults = call.in_faults p ne;
+  }
 
 reads_none : {a : DeskView} → OnlyReads a a
 reads_none = record {
-  after = record { in_faults = omega arith; out_faults = omega arith; steady = refl };
+  after = record { in_faults = λ p. le_refl _; out_faults = λ p. le_refl _; steady = refl };
+  out_faults = refl;
   file = refl;
   written = refl;
   named = refl;
@@ -75,6 +81,7 @@ reads_none = record {
 reads_then : {a m b : DeskView} → OnlyReads a m → OnlyReads m b → OnlyReads a b
 reads_then x y = record {
   after = after_trans x.after y.after;
+  out_faults = y.out_faults ∙ x.out_faults;
   file = y.file ∙ x.file;
   written = y.written ∙ x.written;
   named = y.named ∙ x.named;
@@ -100,7 +107,11 @@ pub read_so : {port : InPort} {name : List ℕ} {P : List ℕ → Type 0} (Q : L
 read_so Q so read = record { there = read.there; told = λ text is. so text (read.told text is) }
 
 unread_then : {p : InPort} {a m b : DeskView} → IsUnread p a m → IsUnread p m b → IsUnread p a b
-unread_then x y = record { left = y.left ∙ x.left; is_open = y.is_open ∙ x.is_open }
+unread_then x y = record {
+  left = y.left ∙ x.left;
+  is_open = y.is_open ∙ x.is_open;
+  in_faults = y.in_faults ∙ x.in_faults;
+}
 
 -- a file that is told of, and isn't told to be absent
 known_holds : (file : Option (Option (List ℕ))) → IsSome file → file ≢ Some None
@@ -119,8 +130,8 @@ nothing_read job basis a stated tells = record {
   netlist = λ some. absurd (omega (arith, some));
   stated = stated;
   accepts = λ p before. absurd (omega (arith, before));
-  unread = λ p after. record { left = refl; is_open = refl };
-  others = λ p none. record { left = refl; is_open = refl };
+  unread = λ p after. record { left = refl; is_open = refl; in_faults = refl };
+  others = λ p none. record { left = refl; is_open = refl; in_faults = refl };
   tells = tells;
 }
 
@@ -200,7 +211,7 @@ module _ {job : Asked} {basis : JobBasis} {place : ℕ} {a m : DeskView} (h : Ha
     stops_reading fault Usage stops = absurd stops
     stops_reading fault ReadFault stops = record {
       unread = λ p after. unread_at p (omega (arith, after, at));
-      rose = omega (arith, h.reads.after.in_faults, stops.rose);
+      rose = omega (arith, h.reads.after.in_faults port, stops.rose);
       basis = basis;
       port = port;
       name = name;
@@ -313,7 +324,7 @@ lacks_at_first job a = record {
   circuit = λ some. absurd (omega (arith, some));
   stated = λ none. refl;
   before = λ p early. absurd (omega (arith, early));
-  unread = λ p after. record { left = refl; is_open = refl };
+  unread = λ p after. record { left = refl; is_open = refl; in_faults = refl };
 }
 
 -- why reading tests ends a job that refuses a malformed line of them

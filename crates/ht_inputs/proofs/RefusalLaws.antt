@@ -74,9 +74,9 @@ good_refused job a b e h has are =
 
 -- where no fault of reading was counted, memory ran out
 pub stops_good : (job : Asked) (a b : DeskView) (e : RunError) → StopsReading job a b e → AreGoodInputs job a
-    → ¬ Rose a.in_faults b.in_faults → exit_status e ≡ 6
+    → ((p : InPort) → ¬ Rose (a.in_faults p) (b.in_faults p)) → exit_status e ≡ 6
 stops_good job a b Usage h are none = absurd h
-stops_good job a b ReadFault h are none = absurd (none h.rose)
+stops_good job a b ReadFault h are none = absurd (none h.port h.rose)
 stops_good job a b WriteFault h are none = absurd h
 stops_good job a b NoMemory h are none = refl
 stops_good job a b (BadTests line) h are none = absurd (good_refused job a b (BadTests line) h.0 (λ l is. h.1) are)

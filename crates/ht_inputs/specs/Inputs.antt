@@ -39,10 +39,11 @@ pub record WasRead (port : InPort) (name : List ℕ) (IsSo : List ℕ → Type 0
   pub there : MayHold old name
   pub told : (text : List ℕ) → IsInput port name text old → IsSo text
 
--- the port was neither opened nor read
+-- the port was neither opened nor read, and no fault was counted there
 pub record IsUnread (port : InPort) (old new : DeskView) : Type 0 where
   pub left : new.left port ≡ old.left port
   pub is_open : new.is_open port ≡ old.is_open port
+  pub in_faults : new.in_faults port ≡ old.in_faults port
 
 -- the text is a netlist of this circuit, and no longer than a netlist may be
 pub record IsGoodNetlist (text : List ℕ) (c : net.Netlist) : Type 0 where
