@@ -1,5 +1,5 @@
 -- What acts leave, one after the other.
-use Rattle.std.proofs.Common.{◌≡◌, ◌≢◌, ℕ, List, [], ◌∷◌, ◌++◌, Bool, true, false, ◌||◌, refl, sym, ◌∙◌, ap, subst, append_assoc}
+use Rattle.std.proofs.Common.{◌≡◌, ◌≢◌, ℕ, List, [], ◌∷◌, ◌++◌, Bool, true, false, ◌||◌, IsTrue, refl, sym, ◌∙◌, ap, subst, append_assoc, arith}
 use Rattle.std.specs.Prelude.{Option, if◌then◌else◌}
 use Rattle.std.specs.List.{list_any}
 use Rattle.std.specs.Option.{option_map}
@@ -7,8 +7,9 @@ use Rattle.std.specs.Io.KnownBytes.{append_known}
 use Rattle.std.proofs.lemmas.List.Folds.{list_any-append}
 use Rattle.ht_app.proofs.Common.{Act, Created, DeskView, Did, Err, Out, OutCall, OutPort, Writes, is_port, make, makes}
 use Rattle.ht_app.proofs.Common.{put}
+use Rattle.ht_ports.specs.Desk.{IsAfter}
 use Rattle.ht_ports.specs.declared.ports.OutPort.TheVariants.{Tests, Report, Proofs}
-use Rattle.ht_app.specs.Acts.{written_by, named_by, written_after, named_after, Stops}
+use Rattle.ht_app.specs.Acts.{IsWriteFault, written_by, named_by, written_after, named_after, Stops}
 
 -- ---- ports
 
@@ -120,11 +121,19 @@ stops_first ys s = record {
   are = ap (λ (l : List Act). l ++ ys) s.are ∙ append_assoc s.whole (s.act ∷ s.rest) ys;
   in_part = s.in_part;
   did = s.did;
+  fault = s.fault;
+}
+
+-- a write that fails after some calls counts as one that fails from before them
+pub fault_after : {port : OutPort} {a m b : DeskView} → IsAfter a m → IsWriteFault port m b → IsWriteFault port a b
+fault_after {port = port} after fault = record {
+  rose = omega (arith, after.out_faults port, fault.rose);
+  unsteady = λ steady. fault.unsteady (subst IsTrue (sym after.steady) steady);
 }
 
 -- if acts stop after others were done, all of them together stop
-pub stops_then : {xs ys : List Act} {a m b : DeskView} → Did xs a m → Stops ys m b → Stops (xs ++ ys) a b
-stops_then {xs = xs} {a = a} {b = b} did s = record {
+pub stops_then : {xs ys : List Act} {a m b : DeskView} → IsAfter a m → Did xs a m → Stops ys m b → Stops (xs ++ ys) a b
+stops_then {xs = xs} {a = a} {b = b} after did s = record {
   whole = xs ++ s.whole;
   act = s.act;
   rest = s.rest;
@@ -133,4 +142,5 @@ stops_then {xs = xs} {a = a} {b = b} did s = record {
   in_part = s.in_part;
   did = subst (λ (l : List Act). Did l a b) (sym (append_assoc xs s.whole s.part))
       (did_then did s.did);
+  fault = fault_after after s.fault;
 }

@@ -16,7 +16,9 @@ use Rattle.ht_app.specs.Outputs.{SaysHead, demo_settings}
 use Rattle.ht_app.proofs.ActLaws.{did_nothing}
 use Rattle.ht_app.proofs.EndLaws.{ends_does, ends_tries, ends_unwritten}
 use Rattle.ht_app.proofs.GenLaws.{of_circuit}
-use Rattle.ht_inputs.proofs.ReadingLaws.{basis_of, no_circuit}
+use Rattle.ht_inputs.proofs.ReadingLaws.{basis_of, lacks_at_first, no_circuit}
+use Rattle.ht_net.proofs.MoreToldLaws.{unknown_is_start}
+use Rattle.ht_app.proofs.PreparedLaws.{no_vectors}
 use Rattle.ht_app.proofs.WritingLaws.{does_then, nothing_written}
 
 -- ---- what is found before it speaks
@@ -42,7 +44,7 @@ pub total_found : {c : net.Netlist} {representatives : List ℕ} {e new : Engine
     → IsTotalOf c e.settings total
 total_found {c = c} {new = new} total of_c of_r same all found =
     subst (λ (s : Settings). IsTotalOf c s total) same.settings (found all.0 all.1
-        (of_circuit (λ d r. AreFinished d r new.settings all.0) new (same.circuit ∙ of_c)
+    (of_circuit (λ d r. AreFinished d r new.settings all.0) new (same.circuit ∙ of_c)
     (same.representatives ∙ of_r) all.2))
 
 -- ---- what it leaves
@@ -59,11 +61,13 @@ module _ (size seed : ℕ) where
     stated = λ none. refl;
     each = λ p name is. let none : None ≡ Some name = sym (demo_reads_none size seed p) ∙ is in absurd (cc);
     circuit = λ some. let none : false ≡ true = some in absurd (cc);
+    latches = unknown_is_start no_circuit;
+    widths = no_vectors no_circuit;
   }
 
   -- `demo` may end for want of memory before it says anything
   pub ends_unsaid : (a : DeskView) → EndsJob {A = Unit {0}} job (Err NoMemory) a a
-  ends_unsaid a = ends_unwritten job (no_change a) NoMemory (inl (did_nothing refl refl refl))
+  ends_unsaid a = ends_unwritten job (no_change a) NoMemory (inl (did_nothing refl refl refl, lacks_at_first job a))
 
   module _ {head : List ℕ} (says : SaysHead size seed (put Out head ∷ [])) {a : DeskView} where
     -- if the head line stops by an error, `demo` ends by it

@@ -122,7 +122,7 @@ generated {c = c} {representatives = representatives} {old = old} {steps = steps
     let are = subst (λ (s : Settings). AreFinished c representatives s steps) (sym same.settings)
     (of_circuit (λ d r. AreFinished d r old.settings steps) old of_c of_r finished) in
     subst (λ (s : Settings). IsGenerated c s (tests_of steps) (body ++ total) (proofs_of s steps) total) same.settings
-        (reports steps stands are plain tests_fit proofs_fit)
+    (reports steps stands are plain tests_fit proofs_fit)
 
 -- ---- what is permitted
 

@@ -1,5 +1,5 @@
 -- Acts that keep to some ports, one after the other.
-use Rattle.std.proofs.Common.{◌≡◌, ℕ, List, [], ◌∷◌, ◌++◌, Bool, true, false, IsTrue, ◌||◌, take, length, refl, sym, ◌∙◌, ap, subst, append_assoc, append-nil, arith}
+use Rattle.std.proofs.Common.{◌≡◌, ℕ, List, [], ◌∷◌, ◌++◌, Bool, true, false, IsTrue, ◌||◌, take, length, refl, sym, ◌∙◌, ap, subst, append_assoc, append-nil, le_refl}
 use Rattle.std.proofs.Math.Seq.{take-append_seam}
 use Rattle.std.specs.Prelude.{Option, Some, None, Result, Ok, Err}
 use Rattle.std.specs.List.{list_any}
@@ -11,10 +11,9 @@ use Rattle.ht_app.proofs.Common.{IsOtherName, NotCreated, OutCall, OutPort, Perm
 use Rattle.ht_app.proofs.Common.{WriteFault, Writes, is_port, make, makes, put}
 use Rattle.ht_ports.specs.Desk.{AddedPart}
 use Rattle.ht_inputs.specs.declared.run_error.RunError.TheVariants.{NoMemory}
-use Rattle.ht_app.specs.Acts.{Stops}
-use Rattle.ht_app.specs.Run.{IsWriteFault}
+use Rattle.ht_app.specs.Acts.{Stops, act_port}
 use Rattle.ht_app.specs.Steps.{EndsWriting, HasWritten, Permits, StopsBy}
-use Rattle.ht_app.proofs.ActLaws.{did_make, did_nothing, did_put, did_then, is_no_port, is_that_port, stops_first}
+use Rattle.ht_app.proofs.ActLaws.{did_make, did_nothing, did_put, did_then, fault_after, is_no_port, is_that_port, stops_first}
 use Rattle.ht_app.proofs.ChangedLaws.{changed_by_creating, changed_by_writing, changed_trans, kept, named_since, not_created}
 
 -- ---- what is permitted
@@ -40,16 +39,18 @@ permits_then ports before (x ∷ xs) ys first rest = (
       (subst (λ (l : List Act). PermitsAll ports l ys) (sym (append_assoc before (x ∷ []) xs)) rest),
 )
 
+-- an act among those that keep to the ports goes to one that may be written
+pub port_permitted : (ports : Ports) (whole : List Act) (act : Act) (rest : List Act)
+    → PermitsAll ports [] (whole ++ act ∷ rest) → ports.writes (act_port act) ≡ true
+port_permitted ports whole act rest all = by act (permits_rest ports [] whole (act ∷ rest) all).0
+  where
+    by : (act : Act) → Permits ports whole act → ports.writes (act_port act) ≡ true
+    by (make port name) permits = permits.1
+    by (put port text) permits = permits.0
+
 or_none : (f : Bool) → (f || (false || false)) ≡ true → f ≡ true
 or_none true is = refl
 or_none false is = cc
-
--- a write that fails after a change counts as one that fails from before the change
-pub fault_since : {ports : Ports} {a m b : DeskView} → ChangedOnly ports a m → IsWriteFault m b → IsWriteFault a b
-fault_since x fault = record {
-  rose = omega (arith, x.after.out_faults, fault.rose);
-  unsteady = λ steady. fault.unsteady (subst IsTrue (sym x.after.steady) steady);
-}
 
 -- ---- one more act
 
@@ -128,7 +129,6 @@ module _ {ports : Ports} {before : List Act} {a m b : DeskView} (port : OutPort)
   pub put_stops : (text : List ℕ) → PermitsAll ports before (put port text ∷ []) → Writes port m b
       → AddedPart port text m b → StopsBy ports (before ++ put port text ∷ []) a b WriteFault
   put_stops text permits w part = (
-    fault_since h.changed (record { rose = part.cause; unsteady = part.steady }),
     record {
       whole = before;
       act = put port text;
@@ -137,15 +137,15 @@ module _ {ports : Ports} {before : List Act} {a m b : DeskView} (port : OutPort)
       are = refl;
       in_part = (part.count, part.proper, refl);
       did = did_then h.did (did_put port (take part.count text) w part.part.written);
+      fault = fault_after h.changed.after (record { rose = part.cause; unsteady = part.steady });
     },
     changed_by_put text permits.0 w,
   )
 
   -- a file that isn't created stops the acts at it by a failed write
-  pub make_stops : (name : List ℕ) → OutCall port m b → NotCreated port m b
-      → StopsBy ports (before ++ make port name ∷ []) a b WriteFault
-  make_stops name call failed = (
-    fault_since h.changed (record { rose = failed.cause; unsteady = failed.steady }),
+  pub make_stops : (name : List ℕ) → PermitsAll ports before (make port name ∷ []) → OutCall port m b
+      → NotCreated port m b → StopsBy ports (before ++ make port name ∷ []) a b WriteFault
+  make_stops name permits call failed = (
     record {
       whole = before;
       act = make port name;
@@ -154,8 +154,9 @@ module _ {ports : Ports} {before : List Act} {a m b : DeskView} (port : OutPort)
       are = refl;
       in_part = refl;
       did = did_then h.did (did_nothing failed.written failed.named failed.is_created);
+      fault = fault_after h.changed.after (record { rose = failed.cause; unsteady = failed.steady });
     },
-    changed_trans h.changed (not_created ports port m b call failed),
+    changed_trans h.changed (not_created ports port m b permits.0.1 call failed),
   )
 
 -- ---- steps after steps
@@ -214,9 +215,8 @@ does_in_part {xs = xs} ys {b = b} first = record {
         let stops = subst (StopsBy ports (before ++ xs) start b) first.only
         (first.tries.ends ports before start h (permits_first ports before xs ys permits)) in
         subst (StopsBy ports (before ++ (xs ++ ys)) start b) (sym first.only) (
-          stops.0,
-          subst (λ (l : List Act). Stops l start b) (append_assoc before xs ys) (stops_first ys stops.1),
-          stops.2,
+          subst (λ (l : List Act). Stops l start b) (append_assoc before xs ys) (stops_first ys stops.0),
+          stops.1,
         );
   };
   only = first.only;
@@ -230,7 +230,9 @@ nothing_written ports a = record {
   permitted = tt;
   did = did_nothing refl refl refl;
   changed = record {
-    after = record { in_faults = omega arith; out_faults = omega arith; steady = refl };
+    after = record { in_faults = λ p. le_refl _; out_faults = λ p. le_refl _; steady = refl };
+    in_faults = λ p off. refl;
+    out_faults = λ p off. refl;
     left = λ p off. refl;
     is_open = λ p off. refl;
     written = λ p off. refl;

@@ -1,8 +1,9 @@
 -- What a command does to its outputs: it makes files and puts texts, one after the other.
-use Rattle.std.specs.Prelude.{◌≡◌, ◌<◌, ◌++◌, ◌∷◌, ℕ, List, [], length, take, Bool, true, false, ◌||◌, Option, if◌then◌else◌}
+use Rattle.std.specs.Prelude.{◌≡◌, ◌<◌, ◌++◌, ◌∷◌, ℕ, List, [], length, take, Bool, true, false, IsTrue, ◌||◌, Option, if◌then◌else◌}
 use Rattle.std.specs.List.{list_any}
 use Rattle.std.specs.Option.{option_map}
 use Rattle.std.specs.Io.KnownBytes.{append_known}
+use Rattle.ht_ports.specs.Causes.{Rose}
 use Rattle.ht_ports.specs.Desk.{DeskView}
 use Rattle.ht_ports.specs.declared.ports.OutPort.{OutPort}
 use Rattle.ht_ports.specs.declared.ports.OutPort.TheVariants.{Tests, Report, Proofs, Out, Err}
@@ -20,6 +21,11 @@ is_port Proofs Proofs = true
 is_port Out Out = true
 is_port Err Err = true
 is_port p q = false
+
+-- where an act goes
+abbrev pub act_port : Act → OutPort
+act_port (make port name) = port
+act_port (put port text) = port
 
 -- ---- what acts leave
 
@@ -61,7 +67,12 @@ abbrev pub IsInPart : Act → List Act → Type 0
 IsInPart (make port name) part = part ≡ []
 IsInPart (put port text) part = (count : ℕ) × (count < length text) × (part ≡ put port (take count text) ∷ [])
 
--- Some first acts were done whole, and the next one in part.
+-- a fault of writing was counted at this port, and the desk isn't steady
+pub record IsWriteFault (port : OutPort) (old new : DeskView) : Type 0 where
+  pub rose : Rose (old.out_faults port) (new.out_faults port)
+  pub unsteady : ¬ IsTrue old.steady
+
+-- Some first acts were done whole, and the next one in part, for a call at its port failed.
 pub record Stops (acts : List Act) (old new : DeskView) : Type 0 where
   pub whole : List Act
   pub act : Act
@@ -70,3 +81,4 @@ pub record Stops (acts : List Act) (old new : DeskView) : Type 0 where
   pub are : acts ≡ whole ++ act ∷ rest
   pub in_part : IsInPart act part
   pub did : Did (whole ++ part) old new
+  pub fault : IsWriteFault (act_port act) old new

@@ -1,5 +1,5 @@
 -- How a run ends, and why.
-use Rattle.std.specs.Prelude.{◌≡◌, ◌⊎◌, ℕ, List, [], ◌++◌, length, take, codes, Some, None, IsTrue, Option}
+use Rattle.std.specs.Prelude.{◌≡◌, ◌≢◌, ◌⊎◌, ℕ, List, [], ◌++◌, length, take, codes, Some, None, Option}
 use Rattle.std.specs.Io.KnownBytes.{append_known}
 use Rattle.ht_ports.specs.Causes.{Rose}
 use Rattle.ht_ports.specs.Desk.{DeskView, IsAfter, Writes}
@@ -13,8 +13,8 @@ use Rattle.ht_inputs.specs.declared.run_error.RunError.{RunError}
 use Rattle.ht_inputs.specs.declared.run_error.RunError.TheVariants.{Denied, Usage, TooLong, Refused, ReadFault, WriteFault, NoMemory, BadStart, BadTests, TooManyVectors, BadResponses, NoSuchFault, BadFaults}
 use Rattle.ht_inputs.specs.Errors.{exit_status}
 use Rattle.ht_inputs.specs.Inputs.{AcceptsInputs, JobBasis}
-use Rattle.ht_inputs.specs.Reading.{StopsReading}
-use Rattle.ht_app.specs.Acts.{Act, Did, Stops}
+use Rattle.ht_inputs.specs.Reading.{LacksMemory, StopsReading}
+use Rattle.ht_app.specs.Acts.{Act, Did, Stops, act_port}
 use Rattle.ht_app.specs.Outputs.{BeginsOutput, MakesOutput}
 
 -- ---- done
@@ -33,19 +33,15 @@ AskedIsDone asked old new = (job : Asked) × (asked ≡ Some job) × IsDone job 
 
 -- ---- a failed write, or want of memory
 
--- a fault of writing was counted, and the desk isn't steady
-pub record IsWriteFault (old new : DeskView) : Type 0 where
-  pub rose : Rose old.out_faults new.out_faults
-  pub unsteady : ¬ IsTrue old.steady
-
--- A write failed, after the inputs were accepted, and the output stops there.
+-- A write failed, after the inputs were accepted, and the output stops there. It wasn't one on Err, so that a run whose
+-- line on Err can't be written has its status all the same.
 pub record FailsToWrite (job : Asked) (old new : DeskView) : Type 0 where
-  pub fault : IsWriteFault old new
   pub basis : JobBasis
   pub inputs : AcceptsInputs job basis old
   pub acts : List Act
   pub makes : MakesOutput job basis acts ⊎ BeginsOutput job basis acts
   pub stops : Stops acts old new
+  pub not_err : act_port stops.act ≢ Err
 
 -- Memory ran out after some first acts were done whole.
 pub record StopsForMemory (job : Asked) (old new : DeskView) : Type 0 where
@@ -58,11 +54,12 @@ pub record StopsForMemory (job : Asked) (old new : DeskView) : Type 0 where
 
 -- ---- the causes
 
--- Why the work of a job ends by an error. Memory may run out at any time: before anything is written, or while the
--- output is begun. Any other error but a failed write is one of reading.
+-- Why the work of a job ends by an error. Memory may run out at any time: before anything is written, at a file or
+-- after them, or while the output is begun. Any other error but a failed write is one of reading.
 abbrev pub HasCause : Asked → DeskView → DeskView → RunError → Type 0
 HasCause job old new WriteFault = FailsToWrite job old new
-HasCause job old new NoMemory = Did [] old new ⊎ StopsForMemory job old new
+HasCause job old new NoMemory =
+    (Did [] old new × LacksMemory job old new) ⊎ StopsForMemory job old new
 HasCause job old new error = StopsReading job old new error
 
 -- The same where words ask for a job or for none. Where they have no form, the desk isn't touched; memory may run out
@@ -94,7 +91,7 @@ err_line (NoSuchFault faults) = numbered (codes "fault: above ") faults (codes "
 err_line (BadFaults line) = numbered (codes "faults: line ") line (codes "\n")
 
 -- The work ended by an error that has its cause, and only then the run said so: Err gets the error's line, or a front
--- of it where the write failed, and nothing else changes.
+-- of it where a write on Err failed, and nothing else changes.
 pub record EndsBy (asked : Option Asked) (status : ℕ) (old new : DeskView) : Type 0 where
   pub error : RunError
   pub is : status ≡ exit_status error
@@ -106,4 +103,4 @@ pub record EndsBy (asked : Option Asked) (status : ℕ) (old new : DeskView) : T
   pub line : Writes Err worked new
   pub count : ℕ
   pub added : new.written Err ≡ append_known (worked.written Err) (take count (err_line error))
-  pub whole : (count ≡ length (err_line error)) ⊎ Rose worked.out_faults new.out_faults
+  pub whole : (count ≡ length (err_line error)) ⊎ Rose (worked.out_faults Err) (new.out_faults Err)

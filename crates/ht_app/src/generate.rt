@@ -12,7 +12,7 @@ ghost use Rattle.ht_texts.specs.SearchReports.{HasPlainNames};
 ghost use Rattle.ht_asked.specs.declared.limits.TheConstants.{MAX_BUDGET, MIN_BUDGET};
 ghost use Rattle.ht_words.specs.Jobs.{asked_by};
 ghost use Rattle.ht_words.specs.declared.job.Job.TheVariants as job_of;
-ghost use Rattle.ht_inputs.specs.Inputs.{HasNetlist, IsStated, JobBasis};
+ghost use Rattle.ht_inputs.specs.Inputs.{AreVectorsOf, HasNetlist, IsStated, JobBasis};
 ghost use Rattle.ht_inputs.specs.Reading.{HasReadTo};
 ghost use Rattle.ht_app.specs.Generating.{WritesAll};
 ghost use Rattle.ht_app.specs.Outputs.{search_of};
@@ -121,6 +121,7 @@ fn generate_chosen<D: Desk>(
     requires classes { AreClasses circuit.now listed.now.classes }
     requires latches { IsStart circuit.now start.items }
     requires width { first.width ≡ circuit.now.inputs }
+    requires widths { AreVectorsOf circuit.now first.list }
     requires none { options.now.first ≡ None → first.list ≡ [] }
     requires budget { (MIN_BUDGET ≤ options.now.budget) × (options.now.budget ≤ MAX_BUDGET) }
     ensures { (before : DeskView) → ((basis : JobBasis) → basis.circuit ≡ circuit.now

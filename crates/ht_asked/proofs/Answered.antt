@@ -41,7 +41,7 @@ module _ (ws : List (String Global)) (first : String Global) (is : Some first �
   by_name (w ∷ rest) e c found =
       let same : first ≡ w = cc in
       ap (option_and_then (λ (d : Command). option_and_then d.asks
-          (given_by_clap (app_with d.name d.form) d.form (d.name ∷ words_of rest))))
+      (given_by_clap (app_with d.name d.form) d.form (d.name ∷ words_of rest))))
       (ap (λ s. command_named (string_bytes s)) (sym same) ∙ found)
 
   named : (c : Command) → command_named (string_bytes first) ≡ Some c
@@ -55,7 +55,7 @@ module _ (ws : List (String Global)) (first : String Global) (is : Some first �
   by_no_name (w ∷ rest) e none =
       let same : first ≡ w = cc in
       ap (option_and_then (λ (d : Command). option_and_then d.asks (given d.form (words_of rest))))
-          (ap (λ s. command_named (string_bytes s)) (sym same) ∙ none)
+      (ap (λ s. command_named (string_bytes s)) (sym same) ∙ none)
 
   not_named : command_named (string_bytes first) ≡ None → asked (words_of ws) ≡ None
   not_named = by_no_name ws is

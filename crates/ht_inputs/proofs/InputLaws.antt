@@ -272,7 +272,7 @@ module _ (texts : InPort → List ℕ) (basis : JobBasis) where
       one_classes basis.circuit representatives basis.representatives
       (subst (λ (c : net.Netlist). AreClasses c representatives) same classes) named.1 in
       none (subst (λ (c : net.Netlist). AreSo c representatives start) (sym same)
-          (subst (λ (l : List ℕ). AreSo basis.circuit l start) (sym list)
+      (subst (λ (l : List ℕ). AreSo basis.circuit l start) (sym list)
       (subst (λ (s : List Tern). AreSo basis.circuit basis.representatives s) (sym from) valid)))
 
   -- those of the basis are denied, if they aren't valid

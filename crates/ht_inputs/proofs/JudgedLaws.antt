@@ -275,7 +275,7 @@ whole_file read = read.whole (omega (arith, read.fits))
 -- what holds of each way in which it stops
 pub lines_stop : {IsWrong : List (List ℕ) → List ℕ → RunError → Type 0} {error_at : ℕ → RunError} {longest most : ℕ}
     {port : InPort} {name : List ℕ} {a b : DeskView} {e : RunError} (IsSo : RunError → Type 0)
-    → (IsReadFault name a b → IsSo ReadFault) → IsSo NoMemory
+    → (IsReadFault port name a b → IsSo ReadFault) → IsSo NoMemory
     → ((error : RunError) → StopsAtLine IsWrong most error port name a → IsSo error)
     → ((line : ℕ) → StopsAtLong IsWrong longest most line port name a → IsSo (error_at line))
     → LinesStop IsWrong error_at longest most port name a b e → IsSo e

@@ -1,5 +1,5 @@
 -- A job's files, read one after the other.
-use Rattle.std.proofs.Common.{◌≡◌, ◌≢◌, ◌<◌, ◌≤◌, ◌+◌, ◌⊎◌, ℕ, List, [], Bool, true, false, IsTrue, inl, inr, refl, sym, ◌∙◌, ap, subst, arith}
+use Rattle.std.proofs.Common.{◌≡◌, ◌≢◌, ◌<◌, ◌≤◌, ◌+◌, ◌⊎◌, ℕ, List, [], Bool, true, false, IsTrue, inl, inr, refl, sym, ◌∙◌, ap, subst, arith, le_refl}
 use Rattle.std.specs.Prelude.{IsSome, is_some, Option, Some, None}
 use Rattle.std.proofs.lemmas.Bool.{cases_lt}
 use Rattle.ht_inputs.proofs.Common.{AcceptsInputs, Asked, BadTests, DeskView, EndsReading, Extra, HasNetlist}
@@ -9,9 +9,9 @@ use Rattle.ht_inputs.proofs.Common.{Usage, WasRead, WriteFault, after_trans, inp
 use Rattle.ht_ports.specs.declared.ports.InPort.TheVariants.{Netlist, Tests, Report, Proofs, Faults}
 use Rattle.ht_net.specs.Circuit.Netlist as net
 use Rattle.ht_inputs.specs.declared.run_error.RunError.TheVariants.{NoMemory, NoSuchFault}
-use Rattle.ht_inputs.specs.Reading.{OnlyReads}
-use Rattle.ht_net.specs.Detect.Detection.{unknown_state}
-use Rattle.ht_inputs.specs.Inputs.{HasFault, IsStated, IsUnread}
+use Rattle.ht_inputs.specs.Reading.{LacksMemory, OnlyReads}
+use Rattle.ht_net.specs.Detect.Detection.{IsStart, unknown_state}
+use Rattle.ht_inputs.specs.Inputs.{AreVectorsOf, HasFault, IsStated, IsUnread}
 use Rattle.ht_inputs.specs.Refusals.{NamesAbove}
 use Rattle.ht_inputs.specs.Jobs.{may_state_start, place_of}
 
@@ -51,6 +51,7 @@ module _ {port : InPort} {a b : DeskView} (call : InCall port a b) where
   only_reads : OnlyReads a b
   only_reads = record {
     after = call.after;
+    out_faults = call.out_faults;
     file = call.file;
     written = call.written;
     named = call.named;
@@ -62,11 +63,16 @@ module _ {port : InPort} {a b : DeskView} (call : InCall port a b) where
   }
 
   unread_by : (p : InPort) → p ≢ port → IsUnread p a b
-  unread_by p ne = record { left = left_still p ne; is_open = call.is_open.others p ne }
+  unread_by p ne = record {
+    left = left_still p ne;
+    is_open = call.is_open.others p ne;
+    in_faults = call.in_faults p ne;
+  }
 
 reads_none : {a : DeskView} → OnlyReads a a
 reads_none = record {
-  after = record { in_faults = omega arith; out_faults = omega arith; steady = refl };
+  after = record { in_faults = λ p. le_refl _; out_faults = λ p. le_refl _; steady = refl };
+  out_faults = refl;
   file = refl;
   written = refl;
   named = refl;
@@ -77,6 +83,7 @@ reads_none = record {
 reads_then : {a m b : DeskView} → OnlyReads a m → OnlyReads m b → OnlyReads a b
 reads_then x y = record {
   after = after_trans x.after y.after;
+  out_faults = y.out_faults ∙ x.out_faults;
   file = y.file ∙ x.file;
   written = y.written ∙ x.written;
   named = y.named ∙ x.named;
@@ -102,7 +109,11 @@ pub read_so : {port : InPort} {name : List ℕ} {P : List ℕ → Type 0} (Q : L
 read_so Q so read = record { there = read.there; told = λ text is. so text (read.told text is) }
 
 unread_then : {p : InPort} {a m b : DeskView} → IsUnread p a m → IsUnread p m b → IsUnread p a b
-unread_then x y = record { left = y.left ∙ x.left; is_open = y.is_open ∙ x.is_open }
+unread_then x y = record {
+  left = y.left ∙ x.left;
+  is_open = y.is_open ∙ x.is_open;
+  in_faults = y.in_faults ∙ x.in_faults;
+}
 
 -- a file that is told of, and isn't told to be absent
 known_holds : (file : Option (Option (List ℕ))) → IsSome file → file ≢ Some None
@@ -121,8 +132,8 @@ nothing_read job basis a stated tells = record {
   netlist = λ some. absurd (omega (arith, some));
   stated = stated;
   accepts = λ p before. absurd (omega (arith, before));
-  unread = λ p after. record { left = refl; is_open = refl };
-  others = λ p none. record { left = refl; is_open = refl };
+  unread = λ p after. record { left = refl; is_open = refl; in_faults = refl };
+  others = λ p none. record { left = refl; is_open = refl; in_faults = refl };
   tells = tells;
 }
 
@@ -204,7 +215,8 @@ module _ {job : Asked} {basis : JobBasis} {place : ℕ} {a m : DeskView} (h : Ha
     unfolding refuses
     stops_reading fault Usage stops = absurd stops
     stops_reading fault ReadFault stops = record {
-      rose = omega (arith, h.reads.after.in_faults, stops.rose);
+      unread = λ p after. unread_at p (omega (arith, after, at));
+      rose = omega (arith, h.reads.after.in_faults port, stops.rose);
       basis = basis;
       port = port;
       name = name;
@@ -219,7 +231,14 @@ module _ {job : Asked} {basis : JobBasis} {place : ℕ} {a m : DeskView} (h : Ha
           (h.accepts p (omega (arith, before, at)) n reads).there;
     }
     stops_reading fault WriteFault stops = absurd stops
-    stops_reading fault NoMemory stops = tt
+    stops_reading fault NoMemory stops = record {
+      basis = basis;
+      place = place;
+      circuit = h.netlist;
+      stated = h.stated;
+      before = h.accepts;
+      unread = λ p after. unread_at p (omega (arith, after));
+    }
     stops_reading fault (NoSuchFault faults) stops = let none : None ≡ Some port = stops.0 in cc
     stops_reading fault e stops = refuses fault e stops
 
@@ -237,7 +256,18 @@ module _ {job : Asked} {basis : JobBasis} {place : ℕ} {a m : DeskView} (h : Ha
 
   -- reading may end for want of memory after any files that were read
   pub no_room : EndsReading job a m NoMemory
-  no_room = record { reads = h.reads; others = h.others; cause = tt }
+  no_room = record {
+    reads = h.reads;
+    others = h.others;
+    cause = record {
+      basis = basis;
+      place = place;
+      circuit = h.netlist;
+      stated = h.stated;
+      before = h.accepts;
+      unread = λ p after. h.unread p (omega (arith, after));
+    };
+  }
 
   -- the fault that the job names isn't one of the circuit
   pub lacks_there : (faults : ℕ) → order_of job Tests ≡ place → 0 < place → NamesAbove job basis.circuit faults
@@ -257,14 +287,17 @@ module _ {job : Asked} {basis : JobBasis} {place : ℕ} {a m : DeskView} (h : Ha
 
   -- a job that has read all files in its order accepts its inputs
   pub accepts_all : ((p : InPort) → place ≤ order_of job p → input_name job p ≡ None) → HasNetlist basis.circuit
+      → IsStart basis.circuit basis.content.start → AreVectorsOf basis.circuit basis.content.list
       → AcceptsInputs job basis a
-  accepts_all rest netlist = record {
+  accepts_all rest netlist latches widths = record {
     each = λ p name is. elim (cases_lt (order_of job p) place) [
       | inl before ↦ h.accepts p before name is
       | inr after ↦ let none : None ≡ Some name = sym (rest p after) ∙ is in cc
     ];
     stated = h.stated;
     circuit = λ some. netlist;
+    latches = latches;
+    widths = widths;
   }
 
 -- ---- what files are first read for
@@ -287,6 +320,17 @@ basis_from c start list rows = record {
 -- that of a job that states no start
 abbrev pub basis_of : net.Netlist → List (List Bool) → List (List Tern) → JobBasis
 basis_of c = basis_from c (unknown_state c)
+
+-- memory may run out before any file is opened
+pub lacks_at_first : (job : Asked) (a : DeskView) → LacksMemory job a a
+lacks_at_first job a = record {
+  basis = basis_of no_circuit [] [];
+  place = 0;
+  circuit = λ some. absurd (omega (arith, some));
+  stated = λ none. refl;
+  before = λ p early. absurd (omega (arith, early));
+  unread = λ p after. record { left = refl; is_open = refl; in_faults = refl };
+}
 
 -- why reading tests ends a job that refuses a malformed line of them
 pub tests_stop : (job : Asked) (basis : JobBasis) (most : ℕ) (name : List ℕ) (a b : DeskView)

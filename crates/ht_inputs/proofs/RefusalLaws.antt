@@ -74,9 +74,9 @@ good_refused j a b e h are =
 
 -- where no fault of reading was counted, memory ran out
 pub stops_good : (j : Job) (a b : DeskView) (e : RunError) → StopsReading (asked_by j) a b e
-    → AreGoodInputs (asked_by j) a → ¬ Rose a.in_faults b.in_faults → exit_status e ≡ 6
+    → AreGoodInputs (asked_by j) a → ((p : InPort) → ¬ Rose (a.in_faults p) (b.in_faults p)) → exit_status e ≡ 6
 stops_good j a b Usage h are none = absurd h
-stops_good j a b ReadFault h are none = absurd (none h.rose)
+stops_good j a b ReadFault h are none = absurd (none h.port h.rose)
 stops_good j a b WriteFault h are none = absurd h
 stops_good j a b NoMemory h are none = refl
 stops_good j a b (NoSuchFault faults) h are none = absurd (lacks_good j a b faults are h)

@@ -215,12 +215,16 @@ module _ (job : Asked) (states_none : may_state_start job ≡ false) (name : Lis
     pub responses_stop : {most : ℕ} {e : RunError} → length basis.circuit.outputs ≤ max_nets
         → LinesStop (IsNoRowLine basis) BadResponses max_nets most in_port.Extra name a b e → Stops e
     responses_stop few stops = lines_stop Stops (λ fault. fault) tt
-        (λ e s. subst Stops (sym s.wrong.0)
-        (refuses_rows (length s.before + 1), read_so _
-        (λ text front. bad_row basis text s.before s.fine s.line e front s.wrong) s.read))
-        (λ line s. subst (λ (n : ℕ). Stops (BadResponses n)) (sym s.line_is)
-        (refuses_rows (length s.before + 1), read_so _
-        (λ text long. long_row basis text s.before s.fine few long) s.read)) stops
+        (λ e s. subst Stops (sym s.wrong.0) (
+          refuses_rows (length s.before + 1),
+          read_so _
+              (λ text front. bad_row basis text s.before s.fine s.line e front s.wrong) s.read,
+        ))
+        (λ line s. subst (λ (n : ℕ). Stops (BadResponses n)) (sym s.line_is) (
+          refuses_rows (length s.before + 1),
+          read_so _
+              (λ text long. long_row basis text s.before s.fine few long) s.read,
+        )) stops
 
     -- the responses end before there is one for each vector
     pub responses_end : {Stands : List (List ℕ) → Type 0} {v : ObservationView}
@@ -229,9 +233,11 @@ module _ (job : Asked) (states_none : may_state_start job ≡ false) (name : Lis
         → Stops (BadResponses (length v.rows + 1))
     responses_end {v = v} read stands fewer =
         let count : length read.lines ≡ length v.rows = ap length stands.lines_are ∙ length-map v.rows row_text in
-        subst (λ (n : ℕ). Stops (BadResponses (n + 1))) count
-            (refuses_rows (length read.lines + 1), read_so _
-        (λ text has. missing_row basis text read.lines read.fine has (omega (arith, count, fewer))) (whole_file read))
+        subst (λ (n : ℕ). Stops (BadResponses (n + 1))) count (
+          refuses_rows (length read.lines + 1),
+          read_so _
+              (λ text has. missing_row basis text read.lines read.fine has (omega (arith, count, fewer))) (whole_file read),
+        )
 
 -- a basis for so many values in each row, and so many vectors
 abbrev pub basis_for : ℕ → ℕ → JobBasis

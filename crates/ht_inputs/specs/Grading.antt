@@ -19,7 +19,7 @@ use Rattle.ht_words.specs.declared.job.RunFiles.{RunFiles}
 use Rattle.ht_inputs.specs.declared.graded.Graded.{Graded}
 use Rattle.ht_inputs.specs.declared.run_error.RunError.{RunError}
 use Rattle.ht_inputs.specs.declared.run_error.RunError.TheVariants.{BadTests, Denied}
-use Rattle.ht_inputs.specs.Inputs.{HasFault, HasNetlist, IsGoodNetlist, JobBasis, SaysBasis, WasRead}
+use Rattle.ht_inputs.specs.Inputs.{AreVectorsOf, HasFault, HasNetlist, IsGoodNetlist, JobBasis, SaysBasis, WasRead}
 use Rattle.ht_inputs.specs.Judging.{judged_basis}
 use Rattle.ht_inputs.specs.Jobs.{input_name, may_state_start}
 use Rattle.ht_inputs.specs.Refusals.{refused_port}
@@ -39,6 +39,7 @@ pub record TestsDetect (c : net.Netlist) (representatives : List ℕ) (start : L
     (old : DeskView) (places : List (Option Place)) : Type 0 where
   pub list : List (List Bool)
   pub few : length list ≤ max_text_bytes
+  pub widths : AreVectorsOf c list
   pub read : WasRead Tests name (λ text. IsTestText c text list) old
   pub first : AreFirstDetections c representatives start list places
 
@@ -75,6 +76,7 @@ pub record IsGraded (files : RunFiles) (start : Option (List ℕ)) (old new : De
   pub netlist : HasNetlist graded.circuit
   pub of_circuit : IsOfCircuit graded
   pub few : length list ≤ max_text_bytes
+  pub widths : AreVectorsOf graded.circuit list
   pub first : HasDetections graded graded.start.items list
   pub reads : (job : Asked) (follows : Bool) (content : Content) → JudgesFiles job files start
       → content.start ≡ graded.start.items → content.list ≡ list

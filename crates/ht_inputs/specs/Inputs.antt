@@ -1,11 +1,12 @@
 -- What the files that a job reads say.
 use Rattle.std.specs.Prelude.{◌≡◌, ◌≢◌, ◌<◌, ◌≤◌, ℕ, Bool, true, false, List, length, Option, Some, None, IsSome}
+use Rattle.std.specs.List.{All}
 use Rattle.ht_ports.specs.Desk.{DeskView}
 use Rattle.ht_ports.specs.declared.ports.InPort.{InPort}
 use Rattle.ht_ports.specs.declared.ports.InPort.TheVariants.{Netlist, Tests, Report, Proofs, Faults, Extra}
 use Rattle.ht_tern.specs.declared.tern.Tern.{Tern}
 use Rattle.ht_net.specs.Circuit.Netlist as net
-use Rattle.ht_net.specs.Detect.Detection.{unknown_state}
+use Rattle.ht_net.specs.Detect.Detection.{IsStart, unknown_state}
 use Rattle.ht_bench.specs.Text.{max_netlist_bytes, IsNetlistOf}
 use Rattle.ht_texts.specs.FaultListTexts.{IsFaultListText}
 use Rattle.ht_texts.specs.StartTexts.{IsStartText}
@@ -37,10 +38,11 @@ pub record WasRead (port : InPort) (name : List ℕ) (IsSo : List ℕ → Type 0
   pub there : MayHold old name
   pub told : (text : List ℕ) → IsInput port name text old → IsSo text
 
--- the port was neither opened nor read
+-- the port was neither opened nor read, and no fault was counted there
 pub record IsUnread (port : InPort) (old new : DeskView) : Type 0 where
   pub left : new.left port ≡ old.left port
   pub is_open : new.is_open port ≡ old.is_open port
+  pub in_faults : new.in_faults port ≡ old.in_faults port
 
 -- the text is a netlist of this circuit, and no longer than a netlist may be
 pub record IsGoodNetlist (text : List ℕ) (c : net.Netlist) : Type 0 where
@@ -53,9 +55,14 @@ HasNetlist c = (text : List ℕ) × IsGoodNetlist text c
 
 -- ---- all files of a job
 
+-- each vector has a value for each input
+abbrev pub AreVectorsOf : net.Netlist → List (List Bool) → Type 0
+AreVectorsOf c list = All (λ (vector : List Bool). length vector ≡ c.inputs) list
+
 -- What the files say, by which a job goes: the netlist's circuit; the start; the vectors of the tests; the rows of the
 -- responses; the numbers of the faults that `gen` works on; of `check` and `report` the classes of faults, and what the
--- report and the proofs say; and whether there is no report, so that the verdicts follow the proofs.
+-- report and the proofs say; and whether there is no report, so that the verdicts follow the proofs: by this the lines
+-- of proofs are judged (`StandsForProofs`), and no clause of `run` speaks of it.
 pub record JobBasis : Type 0 where
   pub circuit : net.Netlist
   pub rows : List (List Tern)
@@ -130,12 +137,14 @@ abbrev pub AcceptsBefore : Asked → JobBasis → InPort → DeskView → Type 0
 AcceptsBefore job basis port old =
     (p : InPort) → order_of job p < order_of job port → AcceptsFile job basis p old
 
--- All were; and the circuit is that of a netlist, and the start all-unknown where none is stated, whatever the desk
--- tells.
+-- All were. And whatever the desk tells: the circuit is that of a netlist; the start has a value for each flip-flop,
+-- and is all-unknown where none is stated; each vector has a value for each input.
 pub record AcceptsInputs (job : Asked) (basis : JobBasis) (old : DeskView) : Type 0 where
   pub stated : IsStated job basis
   pub each : (port : InPort) → AcceptsFile job basis port old
   pub circuit : IsSome (input_name job Netlist) → HasNetlist basis.circuit
+  pub latches : IsStart basis.circuit basis.content.start
+  pub widths : AreVectorsOf basis.circuit basis.content.list
 
 -- ---- inputs that a desk tells
 

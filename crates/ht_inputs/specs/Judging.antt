@@ -89,7 +89,7 @@ pub record StopsAtLong (IsWrong : List (List ℕ) → List ℕ → RunError → 
 -- Why the file wasn't read: the desk failed, memory ran out, or a line ends the run with the error, or is too long.
 abbrev pub LinesStop : (List (List ℕ) → List ℕ → RunError → Type 0) → (ℕ → RunError) → ℕ → ℕ → InPort → List ℕ
     → DeskView → DeskView → RunError → Type 0
-LinesStop IsWrong error_at longest most port name old new error = ((error ≡ ReadFault) × IsReadFault name old new)
+LinesStop IsWrong error_at longest most port name old new error = ((error ≡ ReadFault) × IsReadFault port name old new)
     ⊎ (error ≡ NoMemory) ⊎ StopsAtLine IsWrong most error port name old
     ⊎ ((line : ℕ) × (error ≡ error_at line) × StopsAtLong IsWrong longest most line port name old)
 
@@ -190,7 +190,7 @@ ProofsStop basis name old new (Denied (Proofs line)) =
     WasRead in_port.Proofs name (λ text. IsFirstProofLine (IsTroubleIn basis) text line) old
 ProofsStop basis name old new (Denied (Fault number)) =
     WasRead in_port.Proofs name (λ text. IsFirstFault (IsTroubleIn basis) text number) old
-ProofsStop basis name old new ReadFault = IsReadFault name old new
+ProofsStop basis name old new ReadFault = IsReadFault in_port.Proofs name old new
 ProofsStop basis name old new NoMemory = Unit {0}
 ProofsStop basis name old new error = ⊥
 

@@ -16,15 +16,15 @@ use Rattle.ht_inputs.specs.Refusals.{IsRefusedFor, LacksFault, RefusesInput, ref
 
 -- ---- reading a file
 
--- a fault of reading was counted; a steady desk makes one only where it doesn't hold the name
-pub record IsReadFault (name : List ℕ) (old new : DeskView) : Type 0 where
-  pub rose : Rose old.in_faults new.in_faults
+-- a fault of reading was counted at this port; a steady desk makes one only where it doesn't hold the name
+pub record IsReadFault (port : InPort) (name : List ℕ) (old new : DeskView) : Type 0 where
+  pub rose : Rose (old.in_faults port) (new.in_faults port)
   pub lacks : IsTrue old.steady → ¬ Holds old name
 
 -- why reading a job's file ends the run: the desk fails, memory runs out, or the text is refused
 abbrev pub ReadStops : Asked → JobBasis → InPort → List ℕ → DeskView → DeskView → RunError → Type 0
 ReadStops job basis port name old new Usage = ⊥
-ReadStops job basis port name old new ReadFault = IsReadFault name old new
+ReadStops job basis port name old new ReadFault = IsReadFault port name old new
 ReadStops job basis port name old new WriteFault = ⊥
 ReadStops job basis port name old new NoMemory = Unit {0}
 ReadStops job basis port name old new error =
@@ -39,15 +39,16 @@ pub record AreVectorsUpTo (c : net.Netlist) (most : ℕ) (list : List (List Bool
 abbrev pub TestsStop : net.Netlist → ℕ → List ℕ → DeskView → DeskView → RunError → Type 0
 TestsStop c most name old new (BadTests line) =
     WasRead Tests name (λ text. IsMalformedTest c text line) old × (line ≤ most)
-TestsStop c most name old new ReadFault = IsReadFault name old new
+TestsStop c most name old new ReadFault = IsReadFault Tests name old new
 TestsStop c most name old new NoMemory = Unit {0}
 TestsStop c most name old new error = ⊥
 
 -- ---- reading one file after the other
 
--- Nothing changed but what is left of the in-ports, whether they are open, and the counts.
+-- Nothing changed but what is left of the in-ports, whether they are open, and their counts of faults.
 pub record OnlyReads (old new : DeskView) : Type 0 where
   pub after : IsAfter old new
+  pub out_faults : new.out_faults ≡ old.out_faults
   pub file : new.file ≡ old.file
   pub written : new.written ≡ old.written
   pub named : new.named ≡ old.named
@@ -67,13 +68,13 @@ pub record HasReadTo (job : Asked) (basis : JobBasis) (place : ℕ) (old new : D
 
 -- ---- why reading ends a run
 
--- A fault of reading was counted at a file of the job, after those before it were accepted; at the tests, after the fault
--- that the job names was found. A steady desk makes one only where it doesn't hold the file; it holds those before.
+-- A fault of reading was counted at the port of a file of the job, after those before it were accepted, and those after it weren't
+-- opened; at the tests, after the fault that the job names was found. A steady desk makes one only where it doesn't hold the file; it holds those before.
 pub record FailsToRead (job : Asked) (old new : DeskView) : Type 0 where
-  pub rose : Rose old.in_faults new.in_faults
   pub basis : JobBasis
   pub port : InPort
   pub name : List ℕ
+  pub rose : Rose (old.in_faults port) (new.in_faults port)
   pub reads : input_name job port ≡ Some name
   pub circuit : 0 < order_of job port → HasNetlist basis.circuit
   pub stated : IsStated job basis
@@ -83,13 +84,23 @@ pub record FailsToRead (job : Asked) (old new : DeskView) : Type 0 where
   pub held : IsTrue old.steady → (p : InPort) (n : List ℕ) → order_of job p < order_of job port
       → input_name job p ≡ Some n
       → Holds old n
+  pub unread : (p : InPort) → order_of job port < order_of job p → IsUnread p old new
 
--- Why reading the files of a job ends its run by an error. Memory may run out at any time.
+-- Memory ran out at a place in the order: the files before it were accepted, and those after it weren't opened.
+pub record LacksMemory (job : Asked) (old new : DeskView) : Type 0 where
+  pub basis : JobBasis
+  pub place : ℕ
+  pub circuit : 0 < place → HasNetlist basis.circuit
+  pub stated : IsStated job basis
+  pub before : (p : InPort) → order_of job p < place → AcceptsFile job basis p old
+  pub unread : (p : InPort) → place < order_of job p → IsUnread p old new
+
+-- Why reading the files of a job ends its run by an error. Memory may run out at any file.
 abbrev pub StopsReading : Asked → DeskView → DeskView → RunError → Type 0
 StopsReading job old new Usage = ⊥
 StopsReading job old new ReadFault = FailsToRead job old new
 StopsReading job old new WriteFault = ⊥
-StopsReading job old new NoMemory = Unit {0}
+StopsReading job old new NoMemory = LacksMemory job old new
 StopsReading job old new (NoSuchFault faults) = LacksFault job faults old new
 StopsReading job old new error = RefusesInput job error old new
 

@@ -7,7 +7,7 @@ ghost use Rattle.ht_net.specs.Circuit.Netlist.{IsCircuit};
 ghost use Rattle.ht_texts.specs.Tests.{IsTextOf};
 ghost use Rattle.ht_compact.specs.TestsToCompact.{IsTestTextToCompact};
 ghost use Rattle.ht_asked.specs.Asked.{Asked, gen};
-ghost use Rattle.ht_inputs.specs.Inputs.{HasFault, JobBasis, WasRead};
+ghost use Rattle.ht_inputs.specs.Inputs.{AreVectorsOf, HasFault, JobBasis, WasRead};
 ghost use Rattle.ht_inputs.specs.Jobs.{input_name, takes_few};
 ghost use Rattle.ht_inputs.specs.Reading.{AreVectorsUpTo, EndsReading, HasReadTo, ReadStops, TestsStop};
 
@@ -96,6 +96,7 @@ pub fn read_tests<D: Desk>(
     ensures frame { InCall in_port.Tests (D.view desk.old) (D.view desk.new) }
     ensures upto { IfOk result (λ list. length list.list ≤ most) }
     ensures width { IfOk result (λ list. list.width ≡ circuit.now.inputs) }
+    ensures widths { IfOk result (λ list. AreVectorsOf circuit.now list.list) }
     ensures few { IfOk result (λ list. length list.list ≤ max_text_bytes) }
     ensures read { IfOk result (λ list. WasRead in_port.Tests name.now
         (AreVectorsUpTo circuit.now most list.list) (D.view desk.old)) }
@@ -127,6 +128,7 @@ pub fn read_few_tests<D: Desk>(
     ensures read { IfOk result (λ list. WasRead in_port.Tests name.now
         (λ text. IsTestTextToCompact circuit.now text list.list) (D.view desk.old)) }
     ensures width { IfOk result (λ list. list.width ≡ circuit.now.inputs) }
+    ensures widths { IfOk result (λ list. AreVectorsOf circuit.now list.list) }
     ensures stops { (job : Asked) (basis : JobBasis) → takes_few job.command ≡ true
         → basis.circuit ≡ circuit.now → IfErr result
         (ReadStops job basis in_port.Tests name.now (D.view desk.old) (D.view desk.new)) }
@@ -150,6 +152,7 @@ pub fn read_first<D: Desk>(
 ) -> Result<Vectors, RunError>
     requires { IsCircuit circuit.now }
     ensures width { IfOk result (λ list. list.width ≡ circuit.now.inputs) }
+    ensures widths { IfOk result (λ list. AreVectorsOf circuit.now list.list) }
     ensures none { name.now ≡ None → IfOk result (λ list. list.list ≡ []) }
     ensures read { (job : Asked) (basis : JobBasis) (first : DeskView) → job.command ≡ gen
         → input_name job in_port.Tests ≡ name.now → basis.circuit ≡ circuit.now

@@ -1,19 +1,23 @@
 -- Runs of calls.
-use Rattle.std.proofs.Common.{◌≡◌, ℕ, ◌+◌, List, [], ◌++◌, take, drop, refl, sym, ◌∙◌, ap, subst, arith, append_assoc, Some, None, Bool, IsTrue}
+use Rattle.std.proofs.Common.{◌≡◌, ℕ, ◌+◌, List, [], ◌++◌, take, drop, refl, sym, ◌∙◌, ap, subst, append_assoc, le_trans, Some, None, Bool, IsTrue}
 use lib.Seq.{take-add}
 use Rattle.std.specs.declared.option.Option.{Option}
 use Rattle.std.specs.Io.KnownBytes.{append_known, prepend_known}
-use Rattle.ht_ports.specs.Desk.{DeskView, IsAfter, ChangesAt, TurnsOn, InCall, OutCall, Reads, TookFront, Writes, Added, IsOtherName}
+use Rattle.ht_ports.specs.Desk.{DeskView, IsAfter, CountsAt, ChangesAt, TurnsOn, InCall, OutCall, Reads, TookFront, Writes, Added, IsOtherName}
 use Rattle.ht_ports.specs.declared.ports.InPort.{InPort}
 use Rattle.ht_ports.specs.declared.ports.OutPort.{OutPort}
 
 -- two runs of calls that lower no count of faults and leave the desk as steady do so together too
 pub after_trans : {a b c : DeskView} → IsAfter a b → IsAfter b c → IsAfter a c
 after_trans p q = record {
-  in_faults = omega (arith, p.in_faults, q.in_faults);
-  out_faults = omega (arith, p.out_faults, q.out_faults);
+  in_faults = λ at. le_trans (p.in_faults at) (q.in_faults at);
+  out_faults = λ at. le_trans (p.out_faults at) (q.out_faults at);
   steady = q.steady ∙ p.steady;
 }
+
+counts_trans : {Port : Type 0} {port : Port} {x y z : Port → ℕ} → CountsAt port x y → CountsAt port y z
+    → CountsAt port x z
+counts_trans p q = λ o ne. q o ne ∙ p o ne
 
 changes_trans : {Port : Type 0} {port : Port} {x y z : Port → Option (List ℕ)} → ChangesAt port x y → ChangesAt port y z
     → ChangesAt port x z
@@ -27,6 +31,8 @@ turns_trans p q = record { others = λ o ne. q.others o ne ∙ p.others o ne; st
 pub in_call_trans : (port : InPort) (a b c : DeskView) → InCall port a b → InCall port b c → InCall port a c
 in_call_trans port a b c p q = record {
   after = after_trans p.after q.after;
+  in_faults = counts_trans p.in_faults q.in_faults;
+  out_faults = q.out_faults ∙ p.out_faults;
   file = q.file ∙ p.file;
   written = q.written ∙ p.written;
   named = q.named ∙ p.named;
@@ -47,6 +53,8 @@ pub out_call_trans : (port : OutPort) (a b c : DeskView) → OutCall port a b �
     ≡ b.named port → OutCall port a c
 out_call_trans port a b c p q same = record {
   after = after_trans p.after q.after;
+  in_faults = q.in_faults ∙ p.in_faults;
+  out_faults = counts_trans p.out_faults q.out_faults;
   left = q.left ∙ p.left;
   is_open = q.is_open ∙ p.is_open;
   written = changes_trans p.written q.written;

@@ -33,7 +33,7 @@ part_after port xs ys a b c before added p = record {
         ∙ (append_known_more (a.written port) xs (take p.count ys)
         ∙ ap (λ (l : List ℕ). append_known (a.written port) l) (sym (take-append-add xs ys p.count))));
   };
-  cause = omega (arith, before.call.after.out_faults, p.cause);
+  cause = omega (arith, before.call.after.out_faults port, p.cause);
   steady = λ s. p.steady (subst IsTrue (sym before.call.after.steady) s);
 }
 

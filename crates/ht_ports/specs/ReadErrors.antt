@@ -12,6 +12,7 @@ TookMoreThan limit port old new = (bytes : List ℕ) × (limit < length bytes) �
 
 -- a read failed, more bytes came than the limit, or there was no memory
 abbrev pub ReadHasCause : InPort → ℕ → DeskView → DeskView → ReadFault → Type 0
-ReadHasCause port limit old new Failed = Rose old.in_faults new.in_faults × (IsTrue old.steady → ⊥)
+ReadHasCause port limit old new Failed =
+    Rose (old.in_faults port) (new.in_faults port) × (IsTrue old.steady → ⊥)
 ReadHasCause port limit old new (TooLong max_len) = (max_len ≡ limit) × TookMoreThan limit port old new
 ReadHasCause port limit old new NoMemory = Unit {0}

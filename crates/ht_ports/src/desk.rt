@@ -9,16 +9,17 @@ use crate::{Failed, InPort, OutPort};
 ///
 /// Its contracts speak of one record, the desk's view: the bytes of the
 /// names and the ports where the desk tells them, which ports are open or
-/// created, two counts of faults, and whether the desk is steady. A steady desk
-/// tells which names it holds, and fails only at the opening of another name.
-/// A call that goes well counts no fault.
+/// created, a count of faults for each port, and whether the desk is steady. A
+/// steady desk tells which names it holds, and fails only at the opening of
+/// another name. A call that goes well counts no fault, and one that fails counts
+/// it at its own port.
 pub trait Desk {
     ghost view: { Self → DeskView };
 
     /// Opens the file `name` for reading from its start.
     ///
     /// # Errors
-    /// `Failed` only where the count of in-faults rose; over a steady desk only
+    /// `Failed` only where the port's count of faults rose; over a steady desk only
     /// where there is no file of this name.
     fn open(&mut self, port: InPort, name: &str) -> Result<(), Failed>
         ensures frame { InCall port (view self.old) (view self.new) }
@@ -29,7 +30,7 @@ pub trait Desk {
     /// Makes the file `name`, or empties it. At `Out` and `Err` no file changes.
     ///
     /// # Errors
-    /// `Failed` only where the count of out-faults rose; never over a steady desk.
+    /// `Failed` only where the port's count of faults rose; never over a steady desk.
     fn create(&mut self, port: OutPort, name: &str) -> Result<(), Failed>
         ensures frame { OutCall port (view self.old) (view self.new) }
         ensures created { OnOk result (Created port name.now (view self.old) (view self.new)) }
@@ -40,7 +41,7 @@ pub trait Desk {
     /// nonempty `buf` none exactly at the end.
     ///
     /// # Errors
-    /// `Failed` only where the count of in-faults rose; never over a steady desk.
+    /// `Failed` only where the port's count of faults rose; never over a steady desk.
     fn read(&mut self, port: InPort, buf: &mut [u8]) -> Result<usize, Failed>
         requires { IsTrue ((view self.old).is_open port) }
         ensures bound { ReadsAtMost result buf.new }
@@ -48,13 +49,13 @@ pub trait Desk {
         ensures took { IfOk result
             (λ n. Took port (length buf.old) (take n buf.new) (view self.old) (view self.new)) }
         ensures quiet { OnOk result (KeepsCounts (view self.old) (view self.new)) }
-        ensures failed { OnErr result (NotRead (view self.old) (view self.new)) };
+        ensures failed { OnErr result (NotRead port (view self.old) (view self.new)) };
 
     /// Adds bytes of the front of `bytes`, and says how many: of a nonempty
     /// piece at least one.
     ///
     /// # Errors
-    /// `Failed` only where the count of out-faults rose; never over a steady desk.
+    /// `Failed` only where the port's count of faults rose; never over a steady desk.
     fn write(&mut self, port: OutPort, bytes: &[u8]) -> Result<usize, Failed>
         requires { IsWritable (view self.old) port }
         ensures bound { WritesAtMost result bytes.now }
@@ -63,7 +64,7 @@ pub trait Desk {
         ensures added { IfOk result
             (λ n. Added port (take n bytes.now) (view self.old) (view self.new)) }
         ensures quiet { OnOk result (KeepsCounts (view self.old) (view self.new)) }
-        ensures failed { OnErr result (NotWritten (view self.old) (view self.new)) };
+        ensures failed { OnErr result (NotWritten port (view self.old) (view self.new)) };
 
     ghost steady_tells: { (desk : Self) (name : List ℕ) → IsTrue (view desk).steady
         → IsSome ((view desk).file name) };

@@ -12,7 +12,7 @@ use thiserror::Error;
 /// Why a text isn't read.
 #[derive(Clone, Copy, Debug, PartialEq, Eq, Error)]
 pub enum ReadFault {
-    /// A read failed; the desk's count of in-faults rose.
+    /// A read failed; the port's count of faults rose.
     #[error("the desk failed")]
     Failed,
     /// More bytes than the limit came.
@@ -42,7 +42,7 @@ impl From<Failed> for ReadFault {
 /// Adds all of `bytes`. It takes no memory.
 ///
 /// # Errors
-/// `Failed` where the desk's count of out-faults rose, and never over a steady
+/// `Failed` where the port's count of faults rose, and never over a steady
 /// desk; a proper prefix of the bytes was added then.
 pub fn write_all<D: Desk>(desk: &mut D, port: OutPort, bytes: &[u8]) -> Result<(), Failed>
     requires { IsWritable (D.view desk.old) port }
@@ -58,7 +58,7 @@ pub fn write_all<D: Desk>(desk: &mut D, port: OutPort, bytes: &[u8]) -> Result<(
 /// All bytes that are left, if these are at most `limit`.
 ///
 /// # Errors
-/// `Failed` only where the desk's count of in-faults rose, and never over a
+/// `Failed` only where the port's count of faults rose, and never over a
 /// steady desk; `TooLong` exactly where more bytes than the limit came;
 /// `NoMemory`.
 pub fn read_all<D: Desk>(

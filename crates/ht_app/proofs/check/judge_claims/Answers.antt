@@ -68,7 +68,8 @@ returns g c = λ start first is.
     let (entries, proofs) = c.in_ok-read_proofs.ensures.read (claimed g at is.list []) refl refl refl
     (report_is g at is []).agrees in record {
       made = all_read (one_more (report_read g at is entries) refl (ap Some (sym c.as_str.ensures))
-          c.in_ok-read_proofs.ensures.frame is.netlist proofs.read) (no_more c.args.files.now start) is.netlist _ (
+          c.in_ok-read_proofs.ensures.frame is.netlist proofs.read) (no_more c.args.files.now start) is.netlist
+          of.latches is.widths _ (
             record {
               classes = of.classes;
               justified = proofs.justified;

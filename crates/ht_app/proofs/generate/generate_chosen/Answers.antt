@@ -67,7 +67,7 @@ returns-in_err-chosen g c = λ before read.
     (counted g (goal.at.returns-in_err-chosen g c).After-len) tt (to_faults f options c.requires.netlist read [])) in
     let is : c.from_residual.result ≡ Err c.in_err-chosen.field-0.0 = search rules in
     subst (λ (r : Result (Unit {0}) RunError). EndsJob (job f options) r before (g.D.Desk.view c.read_chosen.new.desk))
-        (sym is) ends
+    (sym is) ends
 
 -- ---- the files are written
 
@@ -95,7 +95,7 @@ are_settings : (g : given.Over) (c : In_ok-chosen g)
 are_settings g c =
     let o = c.args.options.now in
     ap (λ (v : Rows). settings o c.args.start.items v c.in_ok-chosen.chosen)
-        (given_first c.args.first o.first c.args.circuit.now.inputs c.requires.width c.requires.none)
+    (given_first c.args.first o.first c.args.circuit.now.inputs c.requires.width c.requires.none)
     ∙ ap (settings o c.args.start.items _)
     (given_numbers c.in_ok-chosen.chosen o.faults c.in_ok-chosen.ensures.named)
 
@@ -111,7 +111,8 @@ ends g c read told_settings are result b w =
     let f = c.args.files.now in
     let options = c.args.options.now in
     let reads = all_reads g c read in
-    ends_files f options (changes_read reads) (accepts_all reads (no_more f options) c.requires.netlist) result
+    ends_files f options (changes_read reads) (accepts_all reads (no_more f options) c.requires.netlist
+    c.requires.latches c.requires.widths) result
     (subst (λ (s : Settings). WritesAll f c.args.circuit.now s result (g.D.Desk.view c.read_chosen.new.desk) b)
     (are ∙ are_settings g c) w)
 

@@ -68,7 +68,7 @@ returns-in_err-listed g c = λ first read.
     refl)) in
     let is : c.from_residual-in_err-listed.result ≡ Err NoMemory = search rules in
     subst (λ (r : Result (Unit {0}) RunError). EndsJob (job c.args.files.now c.args.options.now) r first
-        (g.D.Desk.view c.read_first.new.desk)) (sym is) ends
+    (g.D.Desk.view c.read_first.new.desk)) (sym is) ends
 
 -- ---- all were read
 

@@ -5,7 +5,8 @@ use Rattle.ht_app.proofs.Common.{HasReadTo, InPort, input_name, make, order_of, 
 use Rattle.ht_ports.specs.declared.ports.InPort.TheVariants.{Netlist}
 use Rattle.ht_ports.specs.declared.ports.OutPort.TheVariants.{Report}
 use Rattle.ht_inputs.proofs.ReadingLaws.{basis_of}
-use Rattle.ht_app.proofs.PreparedLaws.{prepares}
+use Rattle.ht_net.proofs.MoreToldLaws.{unknown_is_start}
+use Rattle.ht_app.proofs.PreparedLaws.{no_vectors, prepares}
 use Rattle.ht_app.proofs.norm.normal_text.Given as given
 use Rattle.ht_app.proofs.norm.normal_text.Goals as goal
 use Rattle.ht_app.proofs.norm.normal_text.Goals.{In_ok-circuit}
@@ -32,6 +33,7 @@ returns-in_err-circuit g c = λ out.
 
 pub returns : goal.returns
 returns g c = λ out. prepares (reads g (goal.at.returns g c).In_ok-circuit out) _ _ _ (no_more c.args.netlist.now out)
-    c.in_ok-circuit.ensures.netlist c.or_no_memory.ensures
+    c.in_ok-circuit.ensures.netlist (unknown_is_start c.in_ok-circuit.circuit) (no_vectors c.in_ok-circuit.circuit)
+    c.or_no_memory.ensures
     (IfOk-weaker c.write-text.result _ _ (λ text is.
     (out, refl, ap (λ t. make Report out ∷ put Report t ∷ []) is)) c.write-text.ensures)

@@ -15,7 +15,7 @@ pub returns-in-Err-clause-does : goal.returns-in-Err-clause-does
 returns-in-Err-clause-does g c = record {
   tries = record {
     ends = λ ports before first h permits.
-        make_stops c.args.port h c.args.name.now c.in-Err.ensures.frame c.in-Err.ensures.failed;
+        make_stops c.args.port h c.args.name.now permits c.in-Err.ensures.frame c.in-Err.ensures.failed;
   };
   only = refl;
 }

@@ -130,7 +130,7 @@ returns g c =
     let of = graded.of_circuit in
     let is = verdicts_are g at in
     prepares (all_reads g at) _ _ _ (no_more c.args.files.now c.args.budget c.args.start.now) graded.netlist
-    c.or_no_memory.ensures (IfOk-weaker c.report_texts-made.result _ _ (λ made so. (
+    of.latches graded.widths c.or_no_memory.ensures (IfOk-weaker c.report_texts-made.result _ _ (λ made so. (
       refl,
       record {
         classes = of.classes;

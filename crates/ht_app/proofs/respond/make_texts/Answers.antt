@@ -91,7 +91,8 @@ returns-in_err-list g c = λ out.
 pub returns : goal.returns
 returns g c = λ out. prepares (all_reads g (goal.at.returns g c).In_ok-list out) _ _ _
     (no_more c.args.netlist.now c.args.tests.now out c.args.number c.args.start.now) c.in_ok-circuit.ensures.netlist
-    c.or_no_memory.ensures (IfOk-weaker c.response_texts-made.result _ _ (λ texts are. (
+    c.in_ok-start.ensures.latches c.in_ok-list.ensures.widths c.or_no_memory.ensures
+    (IfOk-weaker c.response_texts-made.result _ _ (λ texts are. (
       out,
       refl,
       record {

@@ -4,7 +4,8 @@ use Rattle.std.specs.Prelude.{None}
 use Rattle.ht_app.proofs.Common.{HasReadTo, InPort, input_name, order_of}
 use Rattle.ht_ports.specs.declared.ports.InPort.TheVariants.{Netlist}
 use Rattle.ht_inputs.proofs.ReadingLaws.{basis_of}
-use Rattle.ht_app.proofs.PreparedLaws.{prepares}
+use Rattle.ht_net.proofs.MoreToldLaws.{unknown_is_start}
+use Rattle.ht_app.proofs.PreparedLaws.{no_vectors, prepares}
 use Rattle.ht_app.proofs.synchronize.make_texts.Given as given
 use Rattle.ht_app.proofs.synchronize.make_texts.Goals as goal
 use Rattle.ht_app.proofs.synchronize.make_texts.Goals.{In_ok-circuit}
@@ -32,7 +33,8 @@ returns-in_err-circuit g c = λ tests out.
 
 pub returns : goal.returns
 returns g c = λ tests out. prepares (reads g (goal.at.returns g c).In_ok-circuit tests out) _ _ _
-    (no_more c.args.netlist.now tests out c.args.budget) c.in_ok-circuit.ensures.netlist c.or_no_memory.ensures
+    (no_more c.args.netlist.now tests out c.args.budget) c.in_ok-circuit.ensures.netlist
+    (unknown_is_start c.in_ok-circuit.circuit) (no_vectors c.in_ok-circuit.circuit) c.or_no_memory.ensures
     (IfOk-weaker c.sync_texts-made.result _ _
     (λ texts are. (
       tests,

@@ -3,7 +3,8 @@ use Rattle.std.specs.Prelude.{None, Some}
 use Rattle.ht_app.proofs.Common.{HasReadTo, InPort, input_name, order_of}
 use Rattle.ht_ports.specs.declared.ports.InPort.TheVariants.{Netlist}
 use Rattle.ht_inputs.proofs.ReadingLaws.{basis_of}
-use Rattle.ht_app.proofs.PreparedLaws.{prepares_file}
+use Rattle.ht_net.proofs.MoreToldLaws.{unknown_is_start}
+use Rattle.ht_app.proofs.PreparedLaws.{no_vectors, prepares_file}
 use Rattle.ht_app.proofs.uninit.uninit.Given as given
 use Rattle.ht_app.proofs.uninit.uninit.Goals as goal
 use Rattle.ht_app.proofs.uninit.uninit.Goals.{In_ok-circuit}
@@ -31,5 +32,6 @@ returns-in_err-circuit g c = λ out.
 
 pub returns : goal.returns
 returns g c = λ out. prepares_file (reads g (goal.at.returns g c).In_ok-circuit out) _ _ _ _ _
-    (no_more c.args.netlist.now out c.args.budget) c.in_ok-circuit.ensures.netlist (λ acts is. (out, refl, is))
+    (no_more c.args.netlist.now out c.args.budget) c.in_ok-circuit.ensures.netlist
+    (unknown_is_start c.in_ok-circuit.circuit) (no_vectors c.in_ok-circuit.circuit) (λ acts is. (out, refl, is))
     c.or_no_memory.ensures c.uninit_texts-made.ensures

@@ -17,7 +17,7 @@ returns-in_ok-read_fault_list-in-Some-clause-read g c = λ job basis first reads
     same ∙ ap (option_map (λ _. basis.chosen)) c.in-Some.is in
     let numbers : c.in_ok-read_fault_list-in-Some.field-0 ≡ basis.chosen = cc in
     subst (λ (n : ℕ). IsFaultListText n text basis.chosen) (sym count)
-        (subst (λ (l : List ℕ). IsFaultListText c.args.count text l) numbers is))
+    (subst (λ (l : List ℕ). IsFaultListText c.args.count text l) numbers is))
     (c.in_ok-read_fault_list-in-Some.ensures.read basis.circuit count))
 
 pub returns-in_err-read_fault_list-in-Some-clause-stopped : goal.returns-in_err-read_fault_list-in-Some-clause-stopped

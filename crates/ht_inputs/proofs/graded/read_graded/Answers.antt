@@ -117,6 +117,7 @@ returns-clause-graded g c =
         each = first.each;
       };
       few = tests.few;
+      widths = tests.widths;
       first = first;
       reads = λ job follows content is start list. vectors_read g job at.In_ok-places is follows content start list;
     }

@@ -31,6 +31,7 @@ pub returns-clause-read : goal.returns-clause-read
 returns-clause-read g c = record {
   list = c.in-Ok.list.list;
   few = c.in-Ok.ensures.few;
+  widths = c.in-Ok.ensures.widths;
   read = read_so (λ text. IsTestText c.args.circuit.now text c.in-Ok.list.list)
       (λ text are. are.all (omega (arith, c.in-Ok.ensures.few))) c.in-Ok.ensures.read;
   first = c.in_ok-places.ensures.first;

@@ -51,7 +51,7 @@ returns-clause-read g c = λ content start budget saids agrees.
     let at = (goal.at.returns-clause-read g c).After-new-judge in
     let made = c.new-judge.ensures in
     same_circuit (λ circuit r. (entries : List Numbered) × ProofsAreRead circuit r
-        (record content { entries = entries })
+    (record content { entries = entries })
     c.args.name.now (g.D.Desk.view c.args.desk.now)) made.circuit made.classes
     (c.in_ok-judge_proofs.ensures.claimed content (begins g at content start budget saids)
     (same_circuit (λ c r. AgreeWithTests c r content) (sym made.circuit) (sym made.classes) agrees))

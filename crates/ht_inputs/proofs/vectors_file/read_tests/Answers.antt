@@ -46,6 +46,9 @@ returns-clause-upto g c =
 pub returns-clause-width : goal.returns-clause-width
 returns-clause-width g c = (taken g (goal.at.returns-clause-width g c).In_ok-read_lines).stands.width
 
+pub returns-clause-widths : goal.returns-clause-widths
+returns-clause-widths g c = (taken g (goal.at.returns-clause-widths g c).In_ok-read_lines).stands.widths
+
 pub returns-clause-few : goal.returns-clause-few
 returns-clause-few g c =
     let read = taken g (goal.at.returns-clause-few g c).In_ok-read_lines in

@@ -1,11 +1,12 @@
 //! Refused memory. In the gate no allocation is refused; outside it these tests run with each of their allocations
 //! refused in turn (`rt try --test --fail-alloc N`, and `model/refused --desk`).
 ghost use Rattle.ht_desks.specs.Memory.{memory_view};
+ghost use Rattle.ht_ports.specs.PerPort.{at_out_port};
 
 use super::rows::{status_of, words_of};
 use ht_app::run;
 use ht_desks::MemoryDesk;
-use ht_ports::{Desk, Failed, InPort, OutPort};
+use ht_ports::{Desk, Failed, InPort, OutPort, PerOutPort, count_out_fault};
 use std::alloc::{AllocError, Global};
 use std::test::Fail;
 
@@ -13,7 +14,7 @@ use std::test::Fail;
 #[derive(Drop)]
 struct MuteDesk {
     inner: MemoryDesk,
-    out_faults: u64,
+    out_faults: PerOutPort<u64>,
     /// A call on another out-port failed.
     output_failed: bool,
 }
@@ -21,7 +22,7 @@ struct MuteDesk {
 impl Desk for MuteDesk {
     ghost use Rattle.std.proofs.Common.{rules};
 
-    ghost view = { λ d. record (memory_view d.inner) { out_faults = d.out_faults } };
+    ghost view = { λ d. record (memory_view d.inner) { out_faults = at_out_port d.out_faults } };
 
     ghost steady_tells = { λ desk name steady. Prim.search rules };
 
@@ -33,9 +34,8 @@ impl Desk for MuteDesk {
         match self.inner.create(port, name) {
             Ok(()) => Ok(()),
             Err(Failed) => {
-                self.out_faults = self.out_faults.saturating_add(1);
                 self.output_failed = true;
-                Err(Failed)
+                Err(count_out_fault(&mut self.out_faults, port))
             }
         }
     }
@@ -51,8 +51,7 @@ impl Desk for MuteDesk {
             }
             self.output_failed = true;
         }
-        self.out_faults = self.out_faults.saturating_add(1);
-        Err(Failed)
+        Err(count_out_fault(&mut self.out_faults, port))
     }
 }
 
@@ -110,7 +109,7 @@ fn keeps_status(alloc: Global, desk: &mut MuteDesk) -> Result<bool, AllocError> 
 fn refused_memory_on_a_mute_desk_keeps_its_status(rt: HostRuntime) -> Result<(), Fail> {
     let mut desk = MuteDesk {
         inner: MemoryDesk::new(rt.alloc()),
-        out_faults: 0,
+        out_faults: PerOutPort::empty(),
         output_failed: false,
     };
     assert!(rt; keeps_status(rt.alloc(), &mut desk)?);
