@@ -6,7 +6,7 @@ use Rattle.std.proofs.lemmas.List.{get_or_default, get_or-set_other}
 use Rattle.std.proofs.lemmas.List.Elements.{Contains-get_or}
 use Rattle.ht_events.specs.Items.{frame_items, item_count, ReadsNet, IsReader}
 use Rattle.ht_events.specs.FramePlans.{IsOffsetTable, reader_offset}
-use Rattle.ht_events.specs.Plans.{PlanState, AreApart, position_at}
+use Rattle.ht_events.specs.Plans.{PlanState, AreDistinctRanks, position_at}
 use Rattle.ht_events.specs.Pending.{IsPending}
 use Rattle.ht_events.proofs.ItemLaws.{reads_known}
 use Rattle.ht_events.proofs.OffsetLaws.{IsThere, reader_at, reader_position, offset_small, there_inside, inside_there, there_known}
@@ -16,7 +16,7 @@ abbrev pub offset_at : PlanState → ℕ → ℕ → ℕ
 offset_at p x k = get_or (get_or p.readers x []) k 0
 
 -- an offset in a net's row is below the number of items of two frames
-pub offset_few : (p : PlanState) (f x i : ℕ) → AreApart p → IsOffsetTable p.circuit p.ranks p.readers
+pub offset_few : (p : PlanState) (f x i : ℕ) → AreDistinctRanks p → IsOffsetTable p.circuit p.ranks p.readers
     → i < length (get_or p.readers x []) → offset_at p x i < frame_items p.circuit + frame_items p.circuit
 offset_few p f x i placed table inside =
     let found = table.sound x (offset_at p x i) (Contains-get_or (get_or p.readers x []) i 0 inside) in
@@ -36,7 +36,7 @@ pub record IsTouched (p : PlanState) (old new : List Bool) (f x i : ℕ) : Type 
   pub only : (y : ℕ) → y < item_count p.circuit p.frames → IsPendingUnder p new y → IsPendingUnder p old y
       ⊎ IsReader p.circuit p.frames f x y
 
-module _ (p : PlanState) (old now : List Bool) (f x i position : ℕ) (placed : AreApart p)
+module _ (p : PlanState) (old now : List Bool) (f x i position : ℕ) (placed : AreDistinctRanks p)
     (is : position ≡ f * frame_items p.circuit + offset_at p x i) (h : IsTouched p old now f x i) where
   -- the position of an item with this offset
   stands : (k l : ℕ) → k ≡ i → offset_at p x k ≡ reader_offset p.circuit p.ranks l → ReadsNet p.circuit l x

@@ -10,7 +10,7 @@ use Rattle.ht_events.specs.declared.readers.NetRow.{NetRow}
 use Rattle.ht_events.specs.NetRows.{lists_of, readers_in, AreNetRows}
 use Rattle.ht_events.specs.Items.{frame_items, item_at, item_count, reader_frame}
 use Rattle.ht_events.specs.FramePlans.{IsTable, IsOffsetTable, offset_among, reader_offset}
-use Rattle.ht_events.specs.Plans.{PlanState, AreApart, position_at}
+use Rattle.ht_events.specs.Plans.{PlanState, AreDistinctRanks, position_at}
 use Rattle.ht_events.proofs.ItemLaws.{item_frame, item_local, item_inside}
 
 contains_mapped : (f : ℕ → ℕ) (xs : List ℕ) (x : ℕ) → Contains xs x → Contains (map f xs) (f x)
@@ -54,6 +54,9 @@ placed_rows f rows items placed is h = λ x known.
     let fits = (h x known).1 in
     ((h x known).0, omega (arith, e, long, fits))
 
+-- Placed readers are read net by net as their items are.
+pub ruleset placed_rules = (placed_lists, placed_rows)
+
 -- the loop has mapped all items
 pub mapped_all : (f : ℕ → ℕ) (xs ys : List ℕ) (i : ℕ) → length xs ≤ i → ys ≡ map f (take i xs) ++ drop i xs
     → ys ≡ map f xs
@@ -83,7 +86,7 @@ reader_at p f local = item_at p.circuit (reader_frame p.circuit f local) local
 abbrev pub IsThere : PlanState → ℕ → ℕ → Type 0
 IsThere p f local = reader_frame p.circuit f local < p.frames
 
-module _ (p : PlanState) (f l : ℕ) (placed : AreApart p) (known : l < frame_items p.circuit) where
+module _ (p : PlanState) (f l : ℕ) (placed : AreDistinctRanks p) (known : l < frame_items p.circuit) where
   abbrev n : ℕ
   n = frame_items p.circuit
 

@@ -3,11 +3,11 @@ use Rattle.std.proofs.Common.{◌≡◌, ◌<◌, ◌≤◌, ◌+◌, ◌*◌, �
 use Rattle.std.proofs.Math.Nat.{suc-mul, mul-le-mul_right}
 use Rattle.std.proofs.lemmas.Bool.Decides.{eqb_tells}
 use Rattle.ht_events.specs.Items.{IsLoad, item_count}
-use Rattle.ht_events.specs.Plans.{StandsAt, position_at}
+use Rattle.ht_events.specs.Plans.{HasPosition, position_at}
 use Rattle.ht_events.specs.Pending.{CoreState, IsPending}
 
 -- once the first pending item is fired, none is pending up to where it stands
-pub none_below : (s t : CoreState) (item position : ℕ) → StandsAt s.plan item position
+pub none_below : (s t : CoreState) (item position : ℕ) → HasPosition s.plan item position
     → ((y : ℕ) → y < item_count s.plan.circuit s.plan.frames → position_at s.plan y < position → ¬ IsPending s y)
     → ¬ IsPending t item
     → ((y : ℕ) → y < item_count s.plan.circuit s.plan.frames → IsPending t y

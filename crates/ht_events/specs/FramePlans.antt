@@ -12,8 +12,8 @@ pub record IsTable (c : Netlist) (rows : List (List ℕ)) : Type 0 where
   pub sound : (x l : ℕ) → Contains (get_or rows x []) l → ReadsNet c l x
   pub complete : (x l : ℕ) → ReadsNet c l x → Contains (get_or rows x []) l
 
--- How far from the first position of a frame an item stands that reads a net of it, where items stand by frame and in it
--- by rank: a flip-flop is one of the next frame.
+-- How far from the first position of a frame an item stands that reads a net of it, where items stand by frame and in
+-- it by rank: a flip-flop is one of the next frame.
 abbrev pub offset_among : List ℕ → ℕ → ℕ → ℕ
 offset_among ranks dffs l = cond (ltb l dffs) (length ranks + get_or ranks l 0) (get_or ranks l 0)
 
@@ -24,7 +24,8 @@ reader_offset c ranks l = offset_among ranks (length c.dffs) l
 -- each net's row has the offsets of the items that read it
 pub record IsOffsetTable (c : Netlist) (ranks : List ℕ) (rows : List (List ℕ)) : Type 0 where
   pub count : length rows ≡ net_count c
-  pub sound : (x o : ℕ) → Contains (get_or rows x []) o → (l : ℕ) × ReadsNet c l x × (o ≡ reader_offset c ranks l)
+  pub sound : (x o : ℕ) → Contains (get_or rows x []) o → (l : ℕ) × ReadsNet c l x
+      × (o ≡ reader_offset c ranks l)
   pub complete : (x l : ℕ) → ReadsNet c l x → Contains (get_or rows x []) (reader_offset c ranks l)
 
 -- a circuit, the offsets of what reads each net, and the items of a frame in their order, with the rank of each

@@ -29,5 +29,6 @@ AreNetRows rows items = (x : ℕ) → x < length rows → ((row_of rows x).start
 pub record AreEmptyRows (c : Netlist) (n : ℕ) (rows : List NetRow) (room : ℕ) : Type 0 where
   pub count : length rows ≡ n
   pub empty : (x : ℕ) → (row_of rows x).start ≡ (row_of rows x).end
-  pub apart : (x y : ℕ) → x < y → y < length rows → (row_of rows x).end + loads_of c x ≤ (row_of rows y).start
+  pub apart : (x y : ℕ) → x < y → y < length rows → (row_of rows x).end + loads_of c x
+      ≤ (row_of rows y).start
   pub within : (x : ℕ) → x < length rows → (row_of rows x).end + loads_of c x ≤ room

@@ -14,17 +14,18 @@ pub record PlanState : Type 0 where
 
 -- where an item stands in the order of all: by frame, and there by rank
 abbrev pub position_at : PlanState → ℕ → ℕ
-position_at s item = frame_of s.circuit item * frame_items s.circuit + get_or s.ranks (local_of s.circuit item) 0
+position_at s item = frame_of s.circuit item * frame_items s.circuit + get_or s.ranks
+    (local_of s.circuit item) 0
 
 -- ranks are those of a frame's items, and no two items stand at one position
-pub record AreApart (s : PlanState) : Type 0 where
+pub record AreDistinctRanks (s : PlanState) : Type 0 where
   pub count : length s.ranks ≡ frame_items s.circuit
   pub small : (l : ℕ) → l < frame_items s.circuit → get_or s.ranks l 0 < frame_items s.circuit
   pub apart : (x y : ℕ) → x < item_count s.circuit s.frames → y < item_count s.circuit s.frames
       → position_at s x ≡ position_at s y → x ≡ y
 
 -- an item stands at a position, where no other does, and before its loads
-pub record StandsAt (s : PlanState) (item position : ℕ) : Type 0 where
+pub record HasPosition (s : PlanState) (item position : ℕ) : Type 0 where
   pub inside : position < item_count s.circuit s.frames
   pub at : position_at s item ≡ position
   pub only : (y : ℕ) → y < item_count s.circuit s.frames → position_at s y ≡ position → y ≡ item

@@ -18,4 +18,5 @@ pub record AreRanked (c : Netlist) (sources : ℕ) (order ranks : List ℕ) : Ty
   pub back : (x : ℕ) → x < sources + length c.gates → get_or order (get_or ranks x 0) 0 ≡ x
   pub first : (x : ℕ) → x < sources → get_or ranks x 0 ≡ x
   pub forth : (r : ℕ) → r < sources + length c.gates → get_or ranks (get_or order r 0) 0 ≡ r
-  pub rises : (g m : ℕ) → ReadsNumber c sources g m → get_or ranks m 0 < get_or ranks (sources + g) 0
+  pub rises : (g m : ℕ) → ReadsNumber c sources g m → get_or ranks m 0
+      < get_or ranks (sources + g) 0

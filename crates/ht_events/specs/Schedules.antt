@@ -16,7 +16,8 @@ pub record ReadsFrom (c : Netlist) (y x : ℕ) : Type 0 where
 
 -- the ranks of the nets that the gates among these items of a frame drive
 pub record AreGateRanks (c : Netlist) (ranks items row : List ℕ) : Type 0 where
-  pub complete : (l : ℕ) → Contains items l → length c.dffs ≤ l → Contains row (get_or ranks (driven_net c l) 0)
+  pub complete : (l : ℕ) → Contains items l → length c.dffs ≤ l
+      → Contains row (get_or ranks (driven_net c l) 0)
   pub sound : (r : ℕ) → Contains row r → (l : ℕ) × Contains items l × (length c.dffs ≤ l)
       × (r ≡ get_or ranks (driven_net c l) 0)
 

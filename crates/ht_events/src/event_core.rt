@@ -2,7 +2,7 @@
 ghost use Rattle.std.specs.Prelude.{◌≡◌, ℕ, ◌<◌, ◌≤◌, ◌+◌, ◌*◌, true, false, length, get_or, set, IfOk, OnOk, OnErr, IfSome, IfNone, ◌⊎◌};
 ghost use Rattle.ht_net.specs.Circuit.Netlist.{net_count};
 ghost use Rattle.ht_events.specs.Items.{IsLoad, IsReader, frame_items, item_at, item_count};
-ghost use Rattle.ht_events.specs.Plans.{StandsAt, position_at};
+ghost use Rattle.ht_events.specs.Plans.{HasPosition, position_at};
 ghost use Rattle.ht_events.specs.Firings.{GoesOn, IsFired};
 ghost use Rattle.ht_events.specs.Pending.{CoreState, IsPending, IsPendingAt, QuietAgree, core_items, pending_count, pends};
 
@@ -165,7 +165,7 @@ impl<'c> Core<'c> {
     fn finish(&mut self, position: u32, frame: u32, local: u32, changed: bool)
         requires frame { frame < self.old.plan.frames }
         requires local { local < frame_items self.old.plan.circuit }
-        requires stands { StandsAt self.old.plan (item_at self.old.plan.circuit frame local)
+        requires stands { HasPosition self.old.plan (item_at self.old.plan.circuit frame local)
             position }
         ensures plan { self.new.plan ≡ self.old.plan }
         ensures taken { ¬ IsPending self.new (item_at self.old.plan.circuit frame local) }
@@ -222,7 +222,7 @@ impl<'c> Core<'c> {
         requires frames { P.frames plant.old ≡ self.old.plan.frames }
         requires frame { frame < self.old.plan.frames }
         requires local { local < frame_items self.old.plan.circuit }
-        requires stands { StandsAt self.old.plan (item_at self.old.plan.circuit frame local)
+        requires stands { HasPosition self.old.plan (item_at self.old.plan.circuit frame local)
             position }
         ensures plan { self.new.plan ≡ self.old.plan }
         ensures goes_on { GoesOn P.Plant plant.old plant.new }

@@ -2,12 +2,12 @@
 //! agree and what reads it pending. None pending means that all agree, whatever order they were fired in.
 //!
 //! `ranking` gives the order of all that gets a value, sources and then gates, each after those that it reads, and the
-//! rank of each there; which nets count as sources is the caller's to say. A `Schedule` has the order of the nets of one
-//! frame, with the ranks of what reads each.
+//! rank of each there; which nets count as sources is the caller's to say. A `Schedule` has the order of the nets of
+//! one frame, with the ranks of what reads each.
 //!
 //! Over the frames of a window, items are, frame by frame, the flip-flops and then the gates (`specs/Items.antt`). A
-//! `Plant` keeps their cells, as a window of pair sets does; `Core` knows what is pending and nothing of cells. `settle`
-//! fires the lowest frame and level first, so that it fires no item twice.
+//! `Plant` keeps their cells, as a window of pair sets does; `Core` knows what is pending and nothing of cells.
+//! `settle` fires the lowest frame and level first, so that it fires no item twice.
 #![tactic(auto)]
 
 mod event_core;

@@ -3,7 +3,7 @@ ghost use Rattle.std.specs.Prelude.{◌≡◌, ℕ, ◌<◌, ◌≤◌, ◌+◌,
 ghost use Rattle.ht_net.specs.Circuit.Netlist.{IsCircuit, net_count};
 ghost use Rattle.ht_events.specs.Items.{IsLoad, frame_items, item_at, item_count, frame_of, local_of, driven_net};
 ghost use Rattle.ht_events.specs.FramePlans.{IsOffsetTable};
-ghost use Rattle.ht_events.specs.Plans.{AreApart, StandsAt, position_at};
+ghost use Rattle.ht_events.specs.Plans.{AreDistinctRanks, HasPosition, position_at};
 
 use crate::frame_plan::FramePlan;
 use ht_net::NetId;
@@ -130,7 +130,8 @@ impl<'c> Plan<'c> {
         ensures frame { result.0 < self.now.frames }
         ensures local { result.1 < frame_items self.now.circuit }
         ensures few { item_count self.now.circuit self.now.frames < 2 ^ 32 - 1 }
-        ensures stands { StandsAt self.now (item_at self.now.circuit result.0 result.1) position }
+        ensures stands { HasPosition self.now (item_at self.now.circuit result.0 result.1)
+            position }
     {
         let (frame, rank) = self.split(position);
         let plan: &FramePlan = &self.frame_plan;
@@ -154,7 +155,7 @@ impl<'c> Plan<'c> {
         requires { net.0 < net_count self.now.circuit }
         ensures offsets { result.now ≡ get_or self.now.readers net.0 [] }
         ensures table { IsOffsetTable self.now.circuit self.now.ranks self.now.readers }
-        ensures apart { AreApart self.now }
+        ensures apart { AreDistinctRanks self.now }
     {
         self.frame_plan.load_offsets(net)
     }

@@ -76,8 +76,8 @@ fn add(rows: &mut Vec<NetRow>, items: &mut Vec<u32>, net: NetId, local: u32)
     };
 }
 
-// How far from the first position of a frame an item stands that reads a net of it. The frame has as many items as there
-// are ranks.
+// How far from the first position of a frame an item stands that reads a net of it. The frame has as many items as
+// there are ranks.
 fn offset_among(ranks: &[u32], dffs: u32, item: u32) -> u32
     requires few { length ranks.now < 2 ^ 16 }
     requires small { (l : ℕ) → get_or ranks.now l 0 ≤ length ranks.now }
@@ -130,7 +130,7 @@ impl Readers {
 
     /// Puts the offset of each item in its place: how far it stands from the first position of the frame whose net it
     /// reads, where items stand by frame and in it by rank. There are so many flip-flops.
-    #[tactic(auto, using(crate::proofs::OffsetLaws::placed_lists, crate::proofs::OffsetLaws::placed_rows))]
+    #[tactic(auto, using(crate::proofs::OffsetLaws::placed_rules))]
     pub fn place(&mut self, ranks: &[u32], dffs: u32)
         requires few { length ranks.now < 2 ^ 16 }
         requires small { (l : ℕ) → get_or ranks.now l 0 ≤ length ranks.now }

@@ -68,3 +68,6 @@ one_list c representatives others h k =
     ext_get_or 0 representatives others (omega arith)
     (λ i l. one_representative c i i (get_or representatives i 0) (get_or others i 0) (itself (fault_at c i))
     (h.exact i (omega arith)) (k.exact i (omega arith)))
+
+-- There is one list of representatives, and a class has one of them, its own.
+pub ruleset class_rules = (one_list, same_representative, own_representative)

@@ -134,3 +134,6 @@ pub representative_detected : (c : Netlist) (representatives : List â„•) (i : â„
 representative_detected c representatives i start list place circuit h inside =
     members_detected c (fault_at c (get_or representatives i 0)) (fault_at c i) start list place circuit
     (h.exact i inside).member
+
+-- The members of a class show the same, in three values and in two, and are detected by the same lists.
+pub ruleset members_rules = (tern_members_alike, bool_members_alike, members_detected)

@@ -11,7 +11,8 @@ use Rattle.ht_faults.specs.Table.{equivalent_output}
 
 -- The line of pin i of gate g: the pin, if it is a fault site, else the stem of its net.
 abbrev pub line_of_pin : Netlist → ℕ → ℕ → Site
-line_of_pin c g i = cond (is_fanout c (arg_at c g i)) (GatePin g i) (Stem (record { 0 = arg_at c g i }))
+line_of_pin c g i = cond (is_fanout c (arg_at c g i)) (GatePin g i)
+    (Stem (record { 0 = arg_at c g i }))
 
 -- the stem of the net that gate g drives
 abbrev pub output_line : Netlist → ℕ → Site
@@ -26,7 +27,8 @@ pub record EquivalentPair (c : Netlist) (input output : Fault) : Type 0 where
   pub is_pin : pin < length (gate_at c gate).args
   pub at_input : input.site ≡ line_of_pin c gate pin
   pub at_output : output.site ≡ output_line c gate
-  pub values : equivalent_output (gate_at c gate).kind (length (gate_at c gate).args) input.value ≡ Some output.value
+  pub values : equivalent_output (gate_at c gate).kind (length (gate_at c gate).args) input.value
+      ≡ Some output.value
 
 -- Two faults are in one class: the closure of the equivalent pairs.
 pub data SameClass (c : Netlist) : Fault → Fault → Type 0 where

@@ -30,7 +30,8 @@ united c g i (Some w) leaders = set leaders i (get_or leaders (output_number c g
 pub record StayInClass (c : Netlist) (leaders : List ℕ) : Type 0 where
   pub every : length leaders ≡ 2 * net_count c
   pub known : (k : ℕ) → k < length leaders → get_or leaders k 0 < length leaders
-  pub member : (k : ℕ) → k < length leaders → SameClass c (fault_at c k) (fault_at c (get_or leaders k 0))
+  pub member : (k : ℕ) → k < length leaders
+      → SameClass c (fault_at c k) (fault_at c (get_or leaders k 0))
 
 -- The two faults of each pair at pin i of gate g whose input is a stem have one leader.
 pub record PinJoins (c : Netlist) (leaders : List ℕ) (g i : ℕ) : Type 0 where
@@ -43,8 +44,8 @@ GateJoins c leaders g = (i : ℕ) → i < length (gate_at c g).args → PinJoins
 
 -- No fault but those of the stems at the pins of gate g changes its leader.
 pub record OthersStay (c : Netlist) (before after : List ℕ) (g : ℕ) : Type 0 where
-  pub stay : (k : ℕ) → ((i : ℕ) (v : Bool) → i < length (gate_at c g).args → k ≢ stem_number (arg_at c g i) v)
-      → get_or after k 0 ≡ get_or before k 0
+  pub stay : (k : ℕ) → ((i : ℕ) (v : Bool) → i < length (gate_at c g).args
+      → k ≢ stem_number (arg_at c g i) v) → get_or after k 0 ≡ get_or before k 0
 
 -- the leader of an output fault of gate g, or the number i where there is none
 abbrev pub leader_after : Netlist → List ℕ → ℕ → ℕ → Option Bool → ℕ

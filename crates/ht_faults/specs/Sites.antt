@@ -49,7 +49,8 @@ is_site c (GatePin g i) = is_fanout c (arg_at c g i)
 abbrev pub IsFaultSite : Netlist → Site → Type 0
 IsFaultSite c (Stem x) = x.0 < net_count c
 IsFaultSite c (DffPin j) = (j < length c.dffs) × (2 ≤ loads_of c (data_net c j))
-IsFaultSite c (GatePin g i) = (g < length c.gates) × (i < length (gate_at c g).args) × (2 ≤ loads_of c (arg_at c g i))
+IsFaultSite c (GatePin g i) = (g < length c.gates) × (i < length (gate_at c g).args)
+    × (2 ≤ loads_of c (arg_at c g i))
 
 -- the fault sites, in the order of the lines
 abbrev pub sites_of : Netlist → List Site

@@ -12,7 +12,7 @@ ghost use Rattle.ht_faults.specs.Alike.{RunAlike};
 
 /// Faults of one class give equal outputs and equal states in every run, from every common start, over three values
 /// and over two. So a list of vectors detects them at the same first place, from every start.
-#[tactic(auto, using(crate::proofs::RunLaws::tern_members_alike, crate::proofs::RunLaws::bool_members_alike, crate::proofs::RunLaws::members_detected,))]
+#[tactic(auto, using(crate::proofs::RunLaws::members_rules))]
 pub fn members_run_alike()
     ensures terns { (c : Netlist) (f g : Fault) → IsCircuit c → SameClass c f g
         → RunAlike c (tern_rules (Some f)) (tern_rules (Some g)) }
@@ -25,7 +25,7 @@ pub fn members_run_alike()
 
 /// A circuit has one list of representatives, and two faults have one representative exactly where they are in one
 /// class. A representative is its own.
-#[tactic(auto, using(crate::proofs::ClassLaws::one_list, crate::proofs::ClassLaws::same_representative, crate::proofs::ClassLaws::own_representative,))]
+#[tactic(auto, using(crate::proofs::ClassLaws::class_rules))]
 pub fn classes_are_determined()
     ensures one_list { (c : Netlist) (representatives others : List ℕ)
         → AreClasses c representatives → AreClasses c others → representatives ≡ others }
@@ -41,7 +41,8 @@ pub fn classes_are_determined()
 /// What a list of vectors detects first of a representative from a start it detects first of each member.
 pub fn representatives_stand_for_members()
     ensures { (c : Netlist) (representatives : List ℕ) (i : ℕ) (start : List Tern)
-        (list : List (List Bool)) (place : Option Place) → IsCircuit c → AreClasses c representatives
+        (list : List (List Bool)) (place : Option Place) → IsCircuit c
+        → AreClasses c representatives
         → i < length (faults_of c) → IsFirstFrom c (fault_at c (get_or representatives i 0))
         start list place ↔ IsFirstFrom c (fault_at c i) start list place }
 {}

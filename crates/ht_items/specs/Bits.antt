@@ -9,4 +9,5 @@ is_set bits k = bit_at bits k == 1
 -- the bits with bit k as given
 abbrev pub with_bit : ℕ → ℕ → Bool → ℕ
 with_bit bits k bit =
-    if bit then bit_or bits (1 * 2 ^ k % 2 ^ 64) else bit_and bits (bit_not w64 (1 * 2 ^ k % 2 ^ 64))
+    if bit then bit_or bits (1 * 2 ^ k % 2 ^ 64)
+    else bit_and bits (bit_not w64 (1 * 2 ^ k % 2 ^ 64))

@@ -5,7 +5,8 @@ use Rattle.ht_items.specs.declared.flat_rows.FlatRows.TheInside.{Inside}
 -- the rows of a flat list that end at these indices, the first of which begins at `start`
 abbrev pub rows_from : {T : Type 0} → ℕ → List ℕ → List T → List (List T)
 rows_from start [] items = []
-rows_from start (end ∷ ends) items = take (end - start) (drop start items) ∷ rows_from end ends items
+rows_from start (end ∷ ends) items = take (end - start) (drop start items)
+    ∷ rows_from end ends items
 
 -- the ends rise, and the last is where the items end
 abbrev pub AreEnds : {T : Type 0} → ℕ → List ℕ → List T → Type 0

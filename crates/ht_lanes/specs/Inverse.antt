@@ -28,8 +28,10 @@ not_both (suc zero) (suc (suc y)) h k m = absurd (omega (arith, k))
 not_both (suc (suc x)) y h k m = absurd (omega (arith, h))
 
 -- Two words without a common bit aren't both set at bit k.
-pub apart_at : (zeros ones k : ℕ) → bit_and zeros ones ≡ 0 → (is_set zeros k && is_set ones k) ≡ false
-apart_at zeros ones k h = not_both _ _ (bit_at-lt zeros k) (bit_at-lt ones k) (sym (bit_at_and zeros ones k)
+pub apart_at : (zeros ones k : ℕ) → bit_and zeros ones ≡ 0
+    → (is_set zeros k && is_set ones k) ≡ false
+apart_at zeros ones k h = not_both _ _ (bit_at-lt zeros k) (bit_at-lt ones k)
+    (sym (bit_at_and zeros ones k)
     ∙ (ap (λ n. bit_at n k) h ∙ bit_at-zero k))
 
 -- a lane of a word, by what its lanes have
@@ -72,7 +74,8 @@ pub word_back : (zeros ones : ℕ) → AreApart zeros ones
     → (zero_bits_of (lanes_of zeros ones) ≡ zeros) × (one_bits_of (lanes_of zeros ones) ≡ ones)
 word_back zeros ones apart = (
   row_back is_zero (lanes_of zeros ones) zeros (lanes_length zeros ones) apart.zeros_fit
-      (λ k below. ap is_zero (lane_is zeros ones k below) ∙ zero_test (is_set zeros k) (is_set ones k)),
+      (λ k below. ap is_zero (lane_is zeros ones k below)
+      ∙ zero_test (is_set zeros k) (is_set ones k)),
   row_back is_one (lanes_of zeros ones) ones (lanes_length zeros ones) apart.ones_fit
       (λ k below. ap is_one (lane_is zeros ones k below)
       ∙ one_test (is_set zeros k) (is_set ones k) (apart_at zeros ones k apart.apart)),

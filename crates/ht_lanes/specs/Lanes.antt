@@ -50,4 +50,5 @@ with_lane w k value = each_lane (λ i. if i == k then value else lane w i)
 
 -- the word with a set of lanes stuck, each at its bit of a number
 abbrev pub stuck_lanes : ℕ → ℕ → Lanes → Lanes
-stuck_lanes lanes bits w = each_lane (λ k. if is_set lanes k then tern_of (is_set bits k) else lane w k)
+stuck_lanes lanes bits w = each_lane (λ k. if is_set lanes k then tern_of (is_set bits k)
+    else lane w k)

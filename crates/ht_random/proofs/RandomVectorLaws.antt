@@ -21,7 +21,8 @@ random_vector_length (suc n) g =
     let before = random_vector_length n g in
     grind (arith, common_steps, length-append, before)
 
-random_vectors_grow : (n seed : ℕ) → Grows (λ k. random_vector n (generator_after n k seed)) (λ k. random_vectors n k seed)
+random_vectors_grow : (n seed : ℕ) → Grows (λ k. random_vector n (generator_after n k seed))
+    (λ k. random_vectors n k seed)
 random_vectors_grow n seed = record { none = refl; more = λ k. refl }
 
 -- the list of the first k random vectors has k members

@@ -6,7 +6,7 @@ use Rattle.std.proofs.lemmas.Grind.{common_steps}
 use Rattle.rand_pcg.specs.Lcg.{Lcg}
 use Rattle.ht_random.specs.Words.{after_words}
 use Rattle.ht_random.specs.WeightedVectors.{burst_length, burst_start, drawn_weights, in_burst, vector_by, weighted_vector, weighted_vectors}
-use Rattle.ht_random.specs.WeightedOf.{StandsAt}
+use Rattle.ht_random.specs.WeightedOf.{WordsGoOnAt}
 use Rattle.ht_random.proofs.GrownLaws.{Grows, grown_count, grown_at}
 
 -- how many bits and vectors there are
@@ -69,7 +69,7 @@ module _ (n k seed : ℕ) where
   kept_weights = drawn_weights n begin
 
   -- weights are drawn where a burst begins, and kept in it
-  pub begun : (words next : Lcg) (weights drawn : List ℕ) → StandsAt n k seed words weights
+  pub begun : (words next : Lcg) (weights drawn : List ℕ) → WordsGoOnAt n k seed words weights
       → (k % burst_length ≡ 0 → (drawn ≡ drawn_weights n words) × (next ≡ after_words n words))
       → (k % burst_length ≢ 0 → (drawn ≡ weights) × (next ≡ words))
       → (drawn ≡ kept_weights) × (next ≡ before_vector)
@@ -86,7 +86,7 @@ module _ (n k seed : ℕ) where
 
   -- so it is after the words of the vector
   pub goes_on : (next : Lcg) (weights : List ℕ) → next ≡ after_words n before_vector → weights ≡ kept_weights
-      → StandsAt n (k + 1) seed next weights
+      → WordsGoOnAt n (k + 1) seed next weights
   goes_on next weights is kept = record {
     between = λ e.
         let p = burst_after k e in

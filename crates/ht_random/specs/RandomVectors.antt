@@ -20,4 +20,5 @@ generator_after n (suc k) seed = after_words n (generator_after n k seed)
 -- The first k vectors of n bits that are drawn from a seed.
 abbrev pub random_vectors : ℕ → ℕ → ℕ → List (List Bool)
 random_vectors n zero seed = []
-random_vectors n (suc k) seed = random_vectors n k seed ++ random_vector n (generator_after n k seed) ∷ []
+random_vectors n (suc k) seed = random_vectors n k seed
+    ++ random_vector n (generator_after n k seed) ∷ []

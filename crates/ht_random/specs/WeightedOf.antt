@@ -15,11 +15,13 @@ abbrev pub drawn_of : Inside → Drawn
 drawn_of a = record { width = length a.weights.items; seed = a.seed; count = a.count }
 
 -- After k vectors of n bits the words go on where the next burst begins, or in a burst, whose weights are kept.
-pub record StandsAt (n k seed : ℕ) (words : Lcg) (weights : List ℕ) : Type 0 where
+pub record WordsGoOnAt (n k seed : ℕ) (words : Lcg) (weights : List ℕ) : Type 0 where
   pub between : k % burst_length ≡ 0 → words ≡ burst_start n (k / burst_length) seed
-  pub within : k % burst_length ≢ 0 → words ≡ in_burst n (k % burst_length) (burst_start n (k / burst_length) seed)
-  pub weights_are : k % burst_length ≢ 0 → weights ≡ drawn_weights n (burst_start n (k / burst_length) seed)
+  pub within : k % burst_length ≢ 0 → words ≡ in_burst n (k % burst_length)
+      (burst_start n (k / burst_length) seed)
+  pub weights_are : k % burst_length ≢ 0 → weights
+      ≡ drawn_weights n (burst_start n (k / burst_length) seed)
 
 -- The words and the weights stand after as many vectors as were drawn.
 abbrev pub StandsAtCount : Inside → Type 0
-StandsAtCount a = StandsAt (length a.weights.items) a.count a.seed a.words a.weights.items
+StandsAtCount a = WordsGoOnAt (length a.weights.items) a.count a.seed a.words a.weights.items

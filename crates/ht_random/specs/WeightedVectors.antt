@@ -1,4 +1,5 @@
--- The weighted vectors that are drawn from a seed, in bursts: a burst draws a weight for each input, and then its vectors.
+-- The weighted vectors that are drawn from a seed, in bursts: a burst draws a weight for each input, and then its
+-- vectors.
 use Rattle.std.specs.Prelude.{ℕ, zero, suc, ◌%◌, ◌/◌, List, [], ◌∷◌, ◌++◌, Bool, nat_lt, get_or}
 use Rattle.rand_pcg.specs.Lcg.{Lcg}
 use Rattle.ht_random.specs.Words.{generator_of, next_word, after_words}
@@ -14,7 +15,8 @@ weight_numbered k = get_or (5 ∷ 26 ∷ 128 ∷ 230 ∷ 251 ∷ []) k 0
 -- the weights of n inputs: one word for each input in order
 abbrev pub drawn_weights : ℕ → Lcg → List ℕ
 drawn_weights zero g = []
-drawn_weights (suc n) g = drawn_weights n g ++ weight_numbered (next_word (after_words n g) % 5) ∷ []
+drawn_weights (suc n) g = drawn_weights n g
+    ++ weight_numbered (next_word (after_words n g) % 5) ∷ []
 
 -- the next vector of n bits: one word for each input in order, and the input is 1 exactly where the lowest byte of its
 -- word is below its weight

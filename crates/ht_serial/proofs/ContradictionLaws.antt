@@ -45,8 +45,8 @@ opposite_within v c fault start list t o h =
 
 -- what is first opposite in the rows as they were read is the first contradiction at vector t
 pub first_here : (c : Netlist) (fault : Option Fault) (list : List (List Bool)) (rows : List (List Tern)) (t : ℕ)
-    (row shown : List Tern) (first : Option ℕ) → row ≡ get_or rows t [] → shown ≡ get_or (tern_outputs c fault list) t []
-    → IsFirstOpposite row shown first
+    (row shown : List Tern) (first : Option ℕ) → row ≡ get_or rows t []
+    → shown ≡ get_or (tern_outputs c fault list) t [] → IsFirstOpposite row shown first
     → MatchOption first ((o : ℕ) → ¬ Contradicts c fault list rows t o)
     (λ p. Contradicts c fault list rows t p × ((o : ℕ) → o < p → ¬ Contradicts c fault list rows t o))
 first_here c fault list rows t row shown first read is h =

@@ -16,11 +16,13 @@ abbrev pub observed_at : List (List Tern) → ℕ → ℕ → Tern
 observed_at rows t o = get_or (get_or rows t []) o Unk
 
 -- The machine shows at output o of vector t the opposite of what was observed there: both are definite.
-abbrev pub Contradicts : Netlist → Option Fault → List (List Bool) → List (List Tern) → ℕ → ℕ → Type 0
+abbrev pub Contradicts : Netlist → Option Fault → List (List Bool) → List (List Tern)
+    → ℕ → ℕ → Type 0
 Contradicts c fault list rows t o = Opposite (observed_at rows t o) (output_at c fault list t o)
 
 -- the first place where the machine contradicts the observation, or none where it is consistent
-abbrev pub IsFirstContradiction : Netlist → Option Fault → List (List Bool) → List (List Tern) → Option Place → Type 0
+abbrev pub IsFirstContradiction : Netlist → Option Fault → List (List Bool) → List (List Tern)
+    → Option Place → Type 0
 IsFirstContradiction c fault list rows place =
     MatchOption place ((t o : ℕ) → ¬ Contradicts c fault list rows t o)
     (λ p. Contradicts c fault list rows p.vector p.output

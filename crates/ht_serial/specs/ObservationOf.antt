@@ -15,4 +15,5 @@ observation_of a = record { width = a.width; rows = value_rows a.rows.items }
 
 -- each row has a value for each output
 abbrev pub AreOfWidth : Inside → Type 0
-AreOfWidth a = (t : ℕ) → t < length (value_rows a.rows.items) → length (get_or (value_rows a.rows.items) t []) ≡ a.width
+AreOfWidth a = (t : ℕ) → t < length (value_rows a.rows.items)
+    → length (get_or (value_rows a.rows.items) t []) ≡ a.width

@@ -14,7 +14,8 @@ net_of n name = record { 0 = position_or_len (λ other. bytes_eq other name) (ne
 
 -- the gates, over nets
 abbrev pub circuit_gates : NamedNetlist → List Gate
-circuit_gates n = map (λ (g : NamedGate). record { kind = g.kind; args = map (net_of n) g.args }) n.gates
+circuit_gates n = map (λ (g : NamedGate). record { kind = g.kind; args = map (net_of n) g.args })
+    n.gates
 
 -- the circuit
 abbrev pub circuit_of : NamedNetlist → Netlist

@@ -27,7 +27,8 @@ no_name = record { 0 = 0 }
 
 -- no number of the list is less than its first
 abbrev pub BeginsWithLeast : List NameId → Type 0
-BeginsWithLeast cycle = (k : ℕ) → k < length cycle → (get_or cycle 0 no_name).0 ≤ (get_or cycle k no_name).0
+BeginsWithLeast cycle = (k : ℕ) → k < length cycle → (get_or cycle 0 no_name).0
+    ≤ (get_or cycle k no_name).0
 
 -- numbers of names that form a cycle, the least first
 pub record IsDraftLoop (d : Draft) (nets : List NameId) : Type 0 where

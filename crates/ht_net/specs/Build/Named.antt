@@ -34,12 +34,14 @@ name_of c net = get_or c.names net.0 []
 -- the flip-flops and the gates from net x on
 abbrev pub named_dffs : Netlist → ℕ → List NetId → List NamedDff
 named_dffs c x [] = []
-named_dffs c x (d ∷ dffs) = record { out = get_or c.names x []; data_pin = name_of c d } ∷ named_dffs c (x + 1) dffs
+named_dffs c x (d ∷ dffs) = record { out = get_or c.names x []; data_pin = name_of c d }
+    ∷ named_dffs c (x + 1) dffs
 
 -- gates by names, the first of which drives net x
 abbrev pub named_gates : Netlist → ℕ → List Gate → List NamedGate
 named_gates c x [] = []
-named_gates c x (g ∷ gates) = record { kind = g.kind; out = get_or c.names x []; args = map (name_of c) g.args }
+named_gates c x (g ∷ gates) = record { kind = g.kind; out = get_or c.names x [];
+    args = map (name_of c) g.args }
     ∷ named_gates c (x + 1) gates
 
 -- a circuit by the names of its nets

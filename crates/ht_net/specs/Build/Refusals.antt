@@ -34,7 +34,8 @@ RefusesOutput _ = ⊥
 abbrev pub RefusesDff : Draft → NameId → NetError → Type 0
 RefusesDff d out (Twice twice) = (twice ≡ out) × IsDriven d out
 RefusesDff d out (TooMany Pins) = (¬ IsDriven d out) × (draft_pins d ≡ max_pins)
-RefusesDff d out (TooMany Dffs) = (¬ IsDriven d out) × (draft_pins d < max_pins) × (length d.dffs ≡ max_dffs)
+RefusesDff d out (TooMany Dffs) = (¬ IsDriven d out) × (draft_pins d < max_pins)
+    × (length d.dffs ≡ max_dffs)
 RefusesDff d out NoMemory = Unit {0}
 RefusesDff d out _ = ⊥
 

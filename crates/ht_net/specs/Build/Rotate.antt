@@ -7,5 +7,6 @@ use Rattle.ht_net.specs.Build.Finish.{no_name}
 pub record IsLeastFirst (names rotated : List NameId) : Type 0 where
   pub place : ℕ
   pub is_place : place < length names
-  pub least : (k : ℕ) → k < length names → (get_or names place no_name).0 ≤ (get_or names k no_name).0
+  pub least : (k : ℕ) → k < length names → (get_or names place no_name).0
+      ≤ (get_or names k no_name).0
   pub is : rotated ≡ drop place names ++ take place names

@@ -31,6 +31,8 @@ pub record IsBuilt (a : Inside) : Type 0 where
   pub order : IsOrder (netlist_of a.parts) a.order.items
   pub level_order : IsLevelOrder (netlist_of a.parts) a.order.items
   pub level_count : length a.levels.items ≡ length a.parts.gates
-  pub levels : (g : ℕ) → g < length a.parts.gates → get_or a.levels.items g 0 ≡ level_of (netlist_of a.parts) g
+  pub levels : (g : ℕ) → g < length a.parts.gates → get_or a.levels.items g 0
+      ≡ level_of (netlist_of a.parts) g
   pub load_count : length a.loads.items ≡ net_count (netlist_of a.parts)
-  pub loads : (x : ℕ) → x < net_count (netlist_of a.parts) → get_or a.loads.items x 0 ≡ loads_of (netlist_of a.parts) x
+  pub loads : (x : ℕ) → x < net_count (netlist_of a.parts)
+      → get_or a.loads.items x 0 ≡ loads_of (netlist_of a.parts) x

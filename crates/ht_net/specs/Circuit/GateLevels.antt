@@ -10,7 +10,8 @@ level_among first level x = cond (ltb x.0 first) 0 (level (x.0 - first))
 -- the highest level of a gate among these nets, or 0
 abbrev pub highest_among : ℕ → (ℕ → ℕ) → List NetId → ℕ
 highest_among first level [] = 0
-highest_among first level (a ∷ args) = max (level_among first level a) (highest_among first level args)
+highest_among first level (a ∷ args) = max (level_among first level a)
+    (highest_among first level args)
 
 -- the same where the levels stand in a list
 abbrev pub net_level : ℕ → List ℕ → NetId → ℕ
@@ -22,13 +23,14 @@ highest_level first levels args = highest_among first (λ g. get_or levels g 0) 
 
 -- each net that the gates read is there
 pub record AreKnown (first : ℕ) (gates : List Gate) : Type 0 where
-  pub known : (g i : ℕ) → g < length gates → i < length (args_of gates g) → (get_or (args_of gates g) i no_net).0 <
-      first + length gates
+  pub known : (g i : ℕ) → g < length gates → i < length (args_of gates g)
+      → (get_or (args_of gates g) i no_net).0 < first + length gates
 
 -- A table has the level of each gate: one above the highest that its pins read.
 pub record IsLevelled (first : ℕ) (gates : List Gate) (levels : List ℕ) : Type 0 where
   pub count : length levels ≡ length gates
-  pub exact : (g : ℕ) → g < length gates → get_or levels g 0 ≡ suc (highest_level first levels (args_of gates g))
+  pub exact : (g : ℕ) → g < length gates → get_or levels g 0
+      ≡ suc (highest_level first levels (args_of gates g))
   pub bounded : (g : ℕ) → g < length gates → get_or levels g 0 ≤ length gates
 
 -- the levels do not fall along the list

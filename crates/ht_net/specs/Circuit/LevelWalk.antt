@@ -37,23 +37,26 @@ pub record AreReady (first : ℕ) (levels : List ℕ) (args : List NetId) : Type
 -- Of the levels so far: those that are given are right, and none is greater than the number of levels given.
 pub record IsPartly (first : ℕ) (gates : List Gate) (levels : List ℕ) : Type 0 where
   pub count : length levels ≡ length gates
-  pub ready : (g : ℕ) → g < length gates → get_or levels g 0 ≢ 0 → AreReady first levels (args_of gates g)
+  pub ready : (g : ℕ) → g < length gates → get_or levels g 0 ≢ 0
+      → AreReady first levels (args_of gates g)
   pub exact : (g : ℕ) → g < length gates → get_or levels g 0 ≢ 0 → get_or levels g 0
       ≡ suc (highest_level first levels (args_of gates g))
   pub bounded : (g : ℕ) → g < length gates → get_or levels g 0 + open_count levels ≤ length gates
 
 -- Each gate on the path was seen, has no level, and reads the next one; each gate that was seen and has no level is on
 -- it, and one that was not seen has no level.
-pub record IsPath (first : ℕ) (gates : List Gate) (levels : List ℕ) (seen : List Bool) (path : List ℕ) : Type 0 where
+pub record IsPath (first : ℕ) (gates : List Gate) (levels : List ℕ) (seen : List Bool)
+    (path : List ℕ) : Type 0 where
   pub count : length seen ≡ length gates
   pub known : (k : ℕ) → k < length path → get_or path k 0 < length gates
   pub marked : (k : ℕ) → k < length path → get_or seen (get_or path k 0) false ≡ true
   pub unlevelled : (k : ℕ) → k < length path → get_or levels (get_or path k 0) 0 ≡ 0
   pub distinct : AllDiffer path
-  pub reads : (k : ℕ) → k + 1 < length path → ReadsGate first gates (get_or path k 0) (get_or path (k + 1) 0)
+  pub reads : (k : ℕ) → k + 1 < length path
+      → ReadsGate first gates (get_or path k 0) (get_or path (k + 1) 0)
   pub unseen : (g : ℕ) → g < length gates → get_or seen g false ≡ false → get_or levels g 0 ≡ 0
-  pub on_path : (g : ℕ) → g < length gates → get_or seen g false ≡ true → get_or levels g 0 ≡ 0 → (k : ℕ)
-      × (k < length path) × (get_or path k 0 ≡ g)
+  pub on_path : (g : ℕ) → g < length gates → get_or seen g false ≡ true
+      → get_or levels g 0 ≡ 0 → (k : ℕ) × (k < length path) × (get_or path k 0 ≡ g)
 
 -- the net of the first gate, the gates, the path to the gate that is looked at, the levels, and which gates were seen
 pub record LevelWalkState : Type 0 where

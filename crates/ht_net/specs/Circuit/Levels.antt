@@ -35,7 +35,8 @@ highest_below c args = highest_among (first_gate_net c) (level_of c) args
 
 -- an order in which levels don't fall
 pub record IsLevelOrder (c : Netlist) (order : List ℕ) : Type 0 where
-  pub rises : (j k : ℕ) → j ≤ k → k < length order → level_of c (get_or order j 0) ≤ level_of c (get_or order k 0)
+  pub rises : (j k : ℕ) → j ≤ k → k < length order → level_of c (get_or order j 0)
+      ≤ level_of c (get_or order k 0)
 
 -- how often a list has net x
 abbrev pub times : ℕ → List NetId → ℕ
@@ -43,7 +44,8 @@ times x nets = count_by (λ (n : NetId). eqb n.0 x) nets
 
 -- the pins of gates and the data pins that net x drives, and one more if it is an output
 abbrev pub loads_among : List Gate → List NetId → List NetId → ℕ → ℕ
-loads_among gates dffs outputs x = sum_by (λ (g : Gate). times x g.args) gates + (times x dffs + times x outputs)
+loads_among gates dffs outputs x = sum_by (λ (g : Gate). times x g.args) gates
+    + (times x dffs + times x outputs)
 
 -- how many pins and outputs read net x
 abbrev pub loads_of : Netlist → ℕ → ℕ

@@ -88,9 +88,11 @@ pub record IsCircuit (c : Netlist) : Type 0 where
   pub few_pins : pin_count c ≤ max_pins
   pub few_inputs : c.inputs ≤ max_inputs
   pub few_dffs : length c.dffs ≤ max_dffs
-  pub arities : (g : ℕ) → g < length c.gates → HasArity (gate_at c g).kind (length (gate_at c g).args)
+  pub arities : (g : ℕ) → g < length c.gates
+      → HasArity (gate_at c g).kind (length (gate_at c g).args)
   pub few_args : (g : ℕ) → g < length c.gates → length (gate_at c g).args ≤ max_arguments
-  pub known : (g i : ℕ) → g < length c.gates → i < length (gate_at c g).args → arg_at c g i < net_count c
+  pub known : (g i : ℕ) → g < length c.gates → i < length (gate_at c g).args
+      → arg_at c g i < net_count c
   pub data_known : (j : ℕ) → j < length c.dffs → (get_or c.dffs j no_net).0 < net_count c
   pub outputs_known : (o : ℕ) → o < length c.outputs → (get_or c.outputs o no_net).0 < net_count c
   pub outputs_differ : AllDiffer c.outputs
@@ -100,7 +102,8 @@ pub record IsCircuit (c : Netlist) : Type 0 where
 
 -- a net that has its value before the gate at place k of an order is evaluated
 abbrev pub IsReady : Netlist → List ℕ → ℕ → ℕ → Type 0
-IsReady c order k x = (x < first_gate_net c) ⊎ ((j : ℕ) × (j < k) × (x ≡ first_gate_net c + get_or order j 0))
+IsReady c order k x = (x < first_gate_net c)
+    ⊎ ((j : ℕ) × (j < k) × (x ≡ first_gate_net c + get_or order j 0))
 
 -- Each gate stands in the order once, after the gates that drive its arguments.
 pub record IsOrder (c : Netlist) (order : List ℕ) : Type 0 where

@@ -8,16 +8,18 @@ use Rattle.ht_net.specs.Detect.Detection.{IsState}
 
 -- two states that are equal but perhaps at the flip-flops of z
 abbrev pub AgreeOutside : Netlist → (ℕ → Bool) → List Bool → List Bool → Type 0
-AgreeOutside c z state state' = (j : ℕ) → j < length c.dffs → z j ≡ false → get_or state j false ≡ get_or state' j false
+AgreeOutside c z state state' = (j : ℕ) → j < length c.dffs → z j ≡ false
+    → get_or state j false ≡ get_or state' j false
 
 -- From states that agree outside z, one frame of the good and of the faulty machine gives equal outputs, and next
 -- states that agree outside z.
 pub record Sealed (c : Netlist) (fault : Fault) (z : ℕ → Bool) : Type 0 where
-  pub outputs : (vector state state' : List Bool) → length vector ≡ c.inputs → IsState c state → IsState c state'
-      → AgreeOutside c z state state'
-      → frame_outputs c (bool_rules None) vector state ≡ frame_outputs c (bool_rules (Some fault)) vector state'
-  pub stays : (vector state state' : List Bool) → length vector ≡ c.inputs → IsState c state → IsState c state'
-      → AgreeOutside c z state state'
+  pub outputs : (vector state state' : List Bool) → length vector ≡ c.inputs → IsState c state
+      → IsState c state' → AgreeOutside c z state state'
+      → frame_outputs c (bool_rules None) vector state
+      ≡ frame_outputs c (bool_rules (Some fault)) vector state'
+  pub stays : (vector state state' : List Bool) → length vector ≡ c.inputs → IsState c state
+      → IsState c state' → AgreeOutside c z state state'
       → AgreeOutside c z (next_state c (bool_rules None) vector state)
       (next_state c (bool_rules (Some fault)) vector state')
 

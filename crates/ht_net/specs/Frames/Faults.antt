@@ -34,7 +34,8 @@ forced stick (Some fault) is_site v = cond (is_site fault.site) (stick fault.val
 
 -- The rules of a machine over a domain: its gates, what a line that is stuck at a bit makes of a value, and the stuck
 -- line if there is one. A stem fault on a flip-flop's output forces the net and not the latch behind it.
-abbrev pub rules_of : {V : Type 0} → V → (Kind → List V → V) → (Bool → V → V) → Option Fault → Rules V
+abbrev pub rules_of : {V : Type 0} → V → (Kind → List V → V) → (Bool → V → V)
+    → Option Fault → Rules V
 rules_of blank gate stick fault = record {
   blank = blank;
   gate = gate;

@@ -1,7 +1,7 @@
 use Rattle.std.proofs.lemmas.Grind.{elements}
 use Rattle.std.proofs.Common.{◌≡◌, ◌<◌, ◌+◌, ℕ, sym, subst, ap, ◌∙◌, arith}
 use Rattle.ht_events.specs.Items.{item_at, item_count}
-use Rattle.ht_events.specs.Plans.{PlanState, StandsAt, position_at}
+use Rattle.ht_events.specs.Plans.{PlanState, HasPosition, position_at}
 use Rattle.ht_events.specs.Pending.{CoreState, IsPending, QuietAgree}
 use Rattle.ht_events.proofs.SettleLaws.{none_below, spends, spends_most}
 use Rattle.ht_events.proofs.event_core.Core.settle.Goals as goal
@@ -18,8 +18,8 @@ loop-position-preserved g c =
     let position = c.in-Some.position in
     let view = ap (λ (s : CoreState). s.plan) c.self.view_is in
     let plan : s.plan ≡ c.args.self.now.plan = ap (λ (s : CoreState). s.plan) same ∙ i.plan in
-    let stands : StandsAt s.plan (item_at s.plan.circuit frame local) position =
-    subst (λ (p : PlanState). StandsAt p (item_at p.circuit frame local) position) view at.stands in
+    let stands : HasPosition s.plan (item_at s.plan.circuit frame local) position =
+    subst (λ (p : PlanState). HasPosition p (item_at p.circuit frame local) position) view at.stands in
     let low = c.in-Some.ensures.from in
     record {
       plan = f.plan ∙ plan;
@@ -37,7 +37,8 @@ loop-position-preserved g c =
           → position_at p y < position + 1 → ¬ IsPending c.fire_at.new.self y) plan
           (none_below s c.fire_at.new.self (item_at s.plan.circuit frame local) position stands
           (subst (λ (t : CoreState). (y : ℕ) → y < item_count t.plan.circuit t.plan.frames
-          → position_at t.plan y < position → ¬ IsPending t y) (sym same) c.in-Some.ensures.first) f.fired.taken f.fired.only);
+          → position_at t.plan y < position → ¬ IsPending t y) (sym same) c.in-Some.ensures.first) f.fired.taken
+          f.fired.only);
     }
 
 pub returns-in_err-fire_at-clause-agree : goal.returns-in_err-fire_at-clause-agree

@@ -86,8 +86,8 @@ loop-offset-preserved c =
     ]
 
 -- what the loop has touched, under the plan as the core has it
-touched : (c : goal.After-loop-offset) → IsTouched c.self.inside.plan c.self.inside.marks c.loop-offset.marks c.args.frame
-    c.args.net.0 c.loop-offset.offset-index
+touched : (c : goal.After-loop-offset) → IsTouched c.self.inside.plan c.self.inside.marks
+    c.loop-offset.marks c.args.frame c.args.net.0 c.loop-offset.offset-index
 touched c = subst (λ (s : PlanState). IsTouched s c.self.inside.marks c.loop-offset.marks c.args.frame c.args.net.0
     c.loop-offset.offset-index) (sym (ap (λ (s : CoreState). s.plan) c.self.view_is)) c.loop-offset.invariant.touched
 

@@ -2,7 +2,7 @@ use Rattle.std.proofs.Common.{◌≡◌, ◌<◌, ◌∙◌, ℕ, subst, get_or,
 use Rattle.ht_events.specs.Ranks.{AreRanked}
 use Rattle.ht_events.specs.Items.{item_at, item_count, frame_of, local_of}
 use Rattle.ht_events.specs.FramePlans.{FramePlanState}
-use Rattle.ht_events.specs.Plans.{PlanState, StandsAt}
+use Rattle.ht_events.specs.Plans.{PlanState, HasPosition}
 use Rattle.ht_events.proofs.ItemLaws.{ranked_item, ranked_inside, positions_differ, loads_later}
 use Rattle.ht_events.proofs.plan.Plan.local_item.Goals as goal
 
@@ -21,7 +21,7 @@ returns-clause-stands c =
     let frame = c.split-frame.result.0 in
     let o = c.item.result in
     let P : PlanState → Type 0 = λ (s : PlanState). p < item_count s.circuit s.frames → frame ≡ frame_of s.circuit p
-    → c.split-frame.result.1 ≡ local_of s.circuit p → StandsAt s (item_at s.circuit frame o) p in
+    → c.split-frame.result.1 ≡ local_of s.circuit p → HasPosition s (item_at s.circuit frame o) p in
     subst P c.self.view_is (λ inside fs ls.
     let os : o ≡ get_or f.order (local_of f.circuit p) 0 = c.item.ensures.item
     ∙ (ap (λ (f : FramePlanState). get_or f.order c.split-frame.result.1 0) c.deref-plan.ensures

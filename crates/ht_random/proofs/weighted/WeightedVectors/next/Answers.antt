@@ -2,7 +2,7 @@ use Rattle.std.proofs.Common.{◌≡◌, ◌+◌, ℕ, Bool, List, length, sym, 
 use Rattle.std.proofs.lemmas.List.{with_items_is}
 use Rattle.ht_random.specs.Words.{after_words}
 use Rattle.ht_random.specs.WeightedVectors.{vector_by, weighted_vector}
-use Rattle.ht_random.specs.WeightedOf.{Drawn, StandsAt}
+use Rattle.ht_random.specs.WeightedOf.{Drawn, WordsGoOnAt}
 use Rattle.ht_random.proofs.WeightedLaws.{begun, goes_on}
 use Rattle.ht_random.proofs.weighted.WeightedVectors.next.Goals as goal
 
@@ -14,8 +14,8 @@ invariant_of-self c =
     let was = c.deref_mut.ensures.value in
     let begins = rw was at c.begin_burst.ensures.begins in
     let stays = rw was at c.begin_burst.ensures.goes_on in
-    let start = begun n a.count a.seed a.words c.begin_burst.new.words a.weights.items drawn c.self.invariant begins stays
-    in
+    let start = begun n a.count a.seed a.words c.begin_burst.new.words a.weights.items drawn
+    c.self.invariant begins stays in
     let long : length drawn ≡ n = omega arith in
     let items = with_items_is a.weights drawn (omega (arith, long)) in
     let wide : length c.deref_mut-2.result.now ≡ n =
@@ -26,8 +26,8 @@ invariant_of-self c =
     let next : c.draw_vector.new.words ≡ after_words n c.begin_burst.new.words =
     subst (λ (m : ℕ). c.draw_vector.new.words ≡ after_words m c.begin_burst.new.words) wide c.draw_vector.ensures.after
     in
-    subst (λ (w : List ℕ). StandsAt (length w) (a.count + 1) a.seed c.draw_vector.new.words w) (sym items)
-    (subst (λ (m : ℕ). StandsAt m (a.count + 1) a.seed c.draw_vector.new.words drawn) (sym long)
+    subst (λ (w : List ℕ). WordsGoOnAt (length w) (a.count + 1) a.seed c.draw_vector.new.words w) (sym items)
+    (subst (λ (m : ℕ). WordsGoOnAt m (a.count + 1) a.seed c.draw_vector.new.words drawn) (sym long)
     (goes_on n a.count a.seed c.draw_vector.new.words drawn (next ∙ ap (after_words n) start.1) start.0))
 
 pub returns-clause-vector : goal.returns-clause-vector
@@ -40,8 +40,8 @@ returns-clause-vector c =
     let was = c.deref_mut.ensures.value in
     let begins = rw was at c.begin_burst.ensures.begins in
     let stays = rw was at c.begin_burst.ensures.goes_on in
-    let start = begun n a.count a.seed a.words c.begin_burst.new.words a.weights.items drawn c.self.invariant begins stays
-    in
+    let start = begun n a.count a.seed a.words c.begin_burst.new.words a.weights.items drawn
+    c.self.invariant begins stays in
     let long : length drawn ≡ n = omega arith in
     let kept = c.deref.ensures.value ∙ (with_items_is a.weights drawn (omega (arith, long)) ∙ start.0) in
     let wide : length c.deref_mut-2.result.now ≡ n =
