@@ -37,13 +37,19 @@ impl Candidates {
     ) -> Result<(), AllocError> {
         let parents = self.all_parents(order, words)?;
         self.inherit(&parents)?;
-        for lane in BEST..64 - FRESH {
-            self.change(lane_set(lane), words, kept);
-        }
-        for lane in 64 - FRESH..64 {
-            self.renew(lane, words, kept);
+        for lane in BEST..64 {
+            self.vary(lane, words, kept);
         }
         Ok(())
+    }
+
+    // Changes a child, or begins it anew where it is one of the last.
+    fn vary(&mut self, lane: u32, words: &mut Words, kept: &KeptBursts) {
+        if lane < 64 - FRESH {
+            self.change(lane_set(lane), words, kept);
+        } else {
+            self.renew(lane, words, kept);
+        }
     }
 
     // The parents of all children, a lane each.

@@ -71,12 +71,18 @@ fn ordered_gates(alloc: Global, circuit: &Circuit) -> Result<Vec<GateKey>, Alloc
     Ok(keys)
 }
 
+// The numbers of all nets.
+fn net_numbers(alloc: Global, circuit: &Circuit) -> Result<Vec<u32>, AllocError> {
+    let mut numbers = Vec::new(alloc);
+    for net in 0..circuit.nets() {
+        numbers.push(net)?;
+    }
+    Ok(numbers)
+}
+
 // The rank of each net.
 fn net_ranks(alloc: Global, circuit: &Circuit, order: &[GateKey]) -> Result<Vec<u32>, AllocError> {
-    let mut ranks = Vec::new(alloc);
-    for net in 0..circuit.nets() {
-        ranks.push(net)?;
-    }
+    let mut ranks = net_numbers(alloc, circuit)?;
     let first = circuit.inputs().saturating_add(circuit.dffs());
     let mut rank = first;
     for key in order {

@@ -23,8 +23,8 @@ fn write_word(words: &mut [Word], net: usize, word: Word) {
     }
 }
 
-// Gives inputs and flip-flops their words, those of the inputs by the lanes that have a 1.
-fn write_sources(plan: &Plan, ones: &[u64], latches: &[Word], words: &mut [Word]) {
+// Gives inputs their words, by the lanes that have a 1.
+fn write_inputs(ones: &[u64], words: &mut [Word]) {
     for (input, lanes) in ones.iter().enumerate() {
         write_word(
             words,
@@ -32,6 +32,10 @@ fn write_sources(plan: &Plan, ones: &[u64], latches: &[Word], words: &mut [Word]
             Word::splat(Tern::Zero).stick(u64::MAX, *lanes),
         );
     }
+}
+
+// Gives flip-flops their words.
+fn write_latches(plan: &Plan, latches: &[Word], words: &mut [Word]) {
     let mut net = plan.inputs;
     for latch in latches {
         write_word(words, net, *latch);
@@ -99,7 +103,8 @@ impl Runs {
                 .push(vec![in self.alloc; Word::splat(Tern::Unk); plan.nets()]?)?;
         }
         if let Some(words) = self.frames.get_mut(frame) {
-            write_sources(plan, ones, &self.latches, words);
+            write_inputs(ones, words);
+            write_latches(plan, &self.latches, words);
             write_gates(plan, words);
             self.latches.clear();
             for net in &plan.data {
