@@ -1,4 +1,4 @@
-use Rattle.std.proofs.Common.{◌≡◌, ◌∙◌, [], List, Bool, refl, sym, ap, subst, rules}
+use Rattle.std.proofs.Common.{◌≡◌, ◌∙◌, [], refl, sym, ap, subst, rules}
 use Rattle.std.specs.Prelude.{Result, Err}
 use Rattle.ht_net.specs.Circuit.Netlist as net
 use Rattle.ht_net.specs.Detect.Detection.{unknown_state}
