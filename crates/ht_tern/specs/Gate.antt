@@ -47,8 +47,12 @@ pub record Operations (V : Type 0) : Type 0 where
 
 -- the operations of three-valued logic (Kleene)
 abbrev pub tern_operations : Operations Tern
-tern_operations = record { complement = complement_of; conjunction = and_of; disjunction = or_of;
-    parity = xor_of }
+tern_operations = record {
+  complement = complement_of;
+  conjunction = and_of;
+  disjunction = or_of;
+  parity = xor_of;
+}
 
 -- the operations of two-valued logic
 abbrev pub bool_operations : Operations Bool

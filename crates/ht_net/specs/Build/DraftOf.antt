@@ -21,8 +21,11 @@ dff_by names f = record { out = named_at names f.out; data_pin = named_at names 
 
 -- a gate by the names of its numbers
 abbrev pub gate_by : List Name → DraftGate → NamedGate
-gate_by names g = record { kind = g.kind; out = named_at names g.out;
-    args = map (named_at names) g.args }
+gate_by names g = record {
+  kind = g.kind;
+  out = named_at names g.out;
+  args = map (named_at names) g.args;
+}
 
 -- what the fields hold
 pub record Fields : Type 0 where

@@ -40,8 +40,11 @@ named_dffs c x (d ∷ dffs) = record { out = get_or c.names x []; data_pin = nam
 -- gates by names, the first of which drives net x
 abbrev pub named_gates : Netlist → ℕ → List Gate → List NamedGate
 named_gates c x [] = []
-named_gates c x (g ∷ gates) = record { kind = g.kind; out = get_or c.names x [];
-    args = map (name_of c) g.args }
+named_gates c x (g ∷ gates) = record {
+  kind = g.kind;
+  out = get_or c.names x [];
+  args = map (name_of c) g.args;
+}
     ∷ named_gates c (x + 1) gates
 
 -- a circuit by the names of its nets

@@ -9,8 +9,11 @@ use Rattle.ht_net.specs.declared.gates.Gates.TheInside.{Inside}
 abbrev pub gates_of : List Kind → List ℕ → List NetId → List Gate
 gates_of [] starts args = []
 gates_of (k ∷ kinds) starts args =
-    record { kind = k; args = take (get_or starts 1 0 - get_or starts 0 0)
-        (drop (get_or starts 0 0) args) }
+    record {
+      kind = k;
+      args = take (get_or starts 1 0 - get_or starts 0 0)
+          (drop (get_or starts 0 0) args);
+    }
     ∷ gates_of kinds (drop 1 starts) args
 
 -- the gates that flat rows of kinds and arguments stand for
