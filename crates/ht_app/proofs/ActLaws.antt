@@ -132,7 +132,7 @@ fault_after {port = port} after fault = record {
 }
 
 -- if acts stop after others were done, all of them together stop
-pub stops_then : {xs ys : List Act} {a m b : DeskView} → IsAfter a m → Did xs a m → Stops ys m b → Stops (xs ++ ys) a b
+unfoldable pub stops_then : {xs ys : List Act} {a m b : DeskView} → IsAfter a m → Did xs a m → Stops ys m b → Stops (xs ++ ys) a b
 stops_then {xs = xs} {a = a} {b = b} after did s = record {
   whole = xs ++ s.whole;
   act = s.act;
