@@ -9,9 +9,12 @@ use Rattle.clap.proofs.WalkLemmas.{both}
 use Rattle.ht_asked.specs.declared.limits.TheConstants.{MAX_BUDGET, MAX_FAULT, MAX_RANDOM, MAX_SEED, MAX_SIZE, MIN_BUDGET, MIN_FAULT, MIN_SIZE}
 use Rattle.ht_asked.specs.Forms.{Given, given}
 use Rattle.ht_asked.specs.Numbers.{is_number, number_in, number_or}
-use Rattle.ht_asked.specs.Asked.{Asked, InNames, Kind, Numbers, OutNames}
-use Rattle.ht_asked.specs.Commands.{Command, Sorted, asked, budget_of, command_of, command_row, deep_of, demo_size, fault_of}
-use Rattle.ht_asked.specs.Commands.{job_said, kinds, numbers_with, random_of, seed_of, sorted_by}
+use Rattle.ht_asked.specs.Asked.{Asked, InNames, Numbers, OutNames}
+use Rattle.ht_asked.specs.Table.{Kind}
+use Rattle.ht_asked.specs.Commands.{Command, Sorted, asked, budget_of, command_of, deep_of, demo_size, fault_of}
+use Rattle.ht_asked.specs.Table.{command_row}
+use Rattle.ht_asked.specs.Commands.{job_said, numbers_with, random_of, seed_of, sorted_by}
+use Rattle.ht_asked.specs.Table.{kinds}
 use Rattle.ht_asked.specs.Ranges.{IsInRange}
 
 -- ---- numbers

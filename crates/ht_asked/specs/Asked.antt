@@ -1,21 +1,8 @@
 -- A job as words ask for it: its command, the names of its files by port, and its numbers.
 use Rattle.std.specs.Prelude.{ℕ, Bool, false, Option, None}
 use Rattle.clap.specs.Walk.{Text}
+use Rattle.ht_asked.specs.Table.{Kind}
 use Rattle.ht_asked.specs.declared.limits.TheConstants.{DEFAULT_BUDGET, DEFAULT_RANDOM, DEFAULT_SEED, MIN_SIZE}
-
--- the commands
-pub data Kind : Type 0 where
-  sim : Kind
-  gen : Kind
-  check : Kind
-  norm : Kind
-  demo : Kind
-  compact : Kind
-  diagnose : Kind
-  uninit : Kind
-  sync : Kind
-  respond : Kind
-  report : Kind
 
 -- the names of the files to be read, by port: a start, or the responses of `diagnose`, stand at the port Extra
 pub record InNames : Type 0 where
@@ -28,7 +15,14 @@ pub record InNames : Type 0 where
 
 -- no file is read
 abbrev pub reads_nothing : InNames
-reads_nothing = record { netlist = None; tests = None; report = None; proofs = None; faults = None; extra = None }
+reads_nothing = record {
+  netlist = None;
+  tests = None;
+  report = None;
+  proofs = None;
+  faults = None;
+  extra = None;
+}
 
 -- the names of the files to be made, by port
 pub record OutNames : Type 0 where

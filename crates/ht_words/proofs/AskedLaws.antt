@@ -3,10 +3,12 @@ use Rattle.std.proofs.Common.{◌≡◌, ◌∷◌, Bool, ℕ, true, false, cond
 use Rattle.std.specs.Prelude.{IfSome, codes, find, map, option_and_then, option_map}
 use Rattle.std.specs.Str.{bytes_eq}
 use Rattle.clap.specs.Walk.{Text}
-use Rattle.ht_asked.specs.Forms.{Part, given, given_by, has_form, options_of, parts, positionals_of, text_of}
-use Rattle.ht_asked.specs.Asked.{Asked, InNames, Kind, Numbers, OutNames, makes_nothing, reads_nothing, unsaid}
-use Rattle.ht_asked.specs.Asked.{sim, gen, check, norm, demo, compact, diagnose, uninit, sync, respond, report}
-use Rattle.ht_asked.specs.Commands.{Command, asked, budget_of, command_of, deep_of, demo_size, fault_of, kinds}
+use Rattle.ht_asked.specs.Forms.{Part, given, given_by, fits_form, options_of, parts, positionals_of, text_of}
+use Rattle.ht_asked.specs.Asked.{Asked, InNames, Numbers, OutNames, makes_nothing, reads_nothing, unsaid}
+use Rattle.ht_asked.specs.Table.{Kind}
+use Rattle.ht_asked.specs.Table.{sim, gen, check, norm, demo, compact, diagnose, uninit, sync, respond, report}
+use Rattle.ht_asked.specs.Commands.{Command, asked, budget_of, command_of, deep_of, demo_size, fault_of}
+use Rattle.ht_asked.specs.Table.{kinds}
 use Rattle.ht_asked.specs.Commands.{numbers_with, random_of, seed_of}
 use Rattle.ht_words.specs.Jobs.{asked_by}
 use Rattle.ht_words.specs.declared.job.Job.{Job}
@@ -100,7 +102,7 @@ by_names kind names v = tt
 by_parts : (kind : Kind) (ps : Option (List Part)) → AsksForJob
     (option_and_then (command_of kind).asks (option_and_then (given_by (command_of kind).form) ps))
 by_parts kind None = tt
-by_parts kind (Some ps) = go (has_form (command_of kind).form ps)
+by_parts kind (Some ps) = go (fits_form (command_of kind).form ps)
   where
     go : (b : Bool) → AsksForJob (option_and_then (command_of kind).asks (cond b (Some (record {
       positionals = positionals_of ps;

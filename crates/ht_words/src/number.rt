@@ -4,7 +4,7 @@ ghost use Rattle.clap.specs.Words.{first_of, found_of, rows_of};
 ghost use Rattle.ht_asked.specs.Commands.{budget_of, fault_of, random_of, seed_of};
 ghost use Rattle.ht_asked.specs.declared.limits.TheConstants as limit;
 ghost use Rattle.ht_asked.specs.Numbers.{number_in, number_or};
-ghost use Rattle.ht_words.specs.Jobs.{Reads};
+ghost use Rattle.ht_words.specs.Jobs.{Hears};
 
 use crate::job::WordsFault;
 use crate::value::given_text;
@@ -17,7 +17,7 @@ use ht_asked::{
 /// The number that the text writes in the digits `0` to `9` and nothing else, where it is one from the least to the
 /// most. Leading zeros don't matter.
 fn read_number(text: &str, least: u64, most: u64) -> Result<u64, WordsFault>
-    ensures { Reads (number_in least most text.now) result }
+    ensures { Hears (number_in least most text.now) result }
 {
     // `parse` takes a plus, and a word of digits has none.
     if text.starts_with('+') {
@@ -39,7 +39,7 @@ pub fn wanted_number(
     least: u64,
     most: u64,
 ) -> Result<u64, WordsFault>
-    ensures { Reads (option_and_then (number_in least most)
+    ensures { Hears (option_and_then (number_in least most)
         (first_of id.now (rows_of (found_of matches.now)))) result }
 {
     match given_text(matches, id) {
@@ -56,7 +56,7 @@ fn number_or_default(
     least: u64,
     most: u64,
 ) -> Result<u64, WordsFault>
-    ensures { Reads (number_or default least most
+    ensures { Hears (number_or default least most
         (first_of id.now (rows_of (found_of matches.now)))) result }
 {
     match given_text(matches, id) {
@@ -67,7 +67,7 @@ fn number_or_default(
 
 /// The budget of each search.
 pub fn budget(matches: &ArgMatches<'_>) -> Result<u64, WordsFault>
-    ensures { Reads (budget_of (first_of (codes "budget") (rows_of (found_of matches.now))))
+    ensures { Hears (budget_of (first_of (codes "budget") (rows_of (found_of matches.now))))
         result }
 {
     number_or_default(matches, "budget", DEFAULT_BUDGET, MIN_BUDGET, MAX_BUDGET)
@@ -75,7 +75,7 @@ pub fn budget(matches: &ArgMatches<'_>) -> Result<u64, WordsFault>
 
 /// How many random vectors come first, or how many weighted ones after them, as the option of this name says.
 pub fn random(matches: &ArgMatches<'_>, id: &str) -> Result<u32, WordsFault>
-    ensures { Reads (random_of (first_of id.now (rows_of (found_of matches.now)))) result }
+    ensures { Hears (random_of (first_of id.now (rows_of (found_of matches.now)))) result }
 {
     let number = number_or_default(matches, id, DEFAULT_RANDOM, 0, MAX_RANDOM)?;
     Ok(number as u32)
@@ -83,14 +83,14 @@ pub fn random(matches: &ArgMatches<'_>, id: &str) -> Result<u32, WordsFault>
 
 /// The seed of the random and the weighted vectors.
 pub fn seed(matches: &ArgMatches<'_>) -> Result<u64, WordsFault>
-    ensures { Reads (seed_of (first_of (codes "seed") (rows_of (found_of matches.now)))) result }
+    ensures { Hears (seed_of (first_of (codes "seed") (rows_of (found_of matches.now)))) result }
 {
     number_or_default(matches, "seed", DEFAULT_SEED, 0, MAX_SEED)
 }
 
 /// The number of a fault, if one is given.
 pub fn fault_number(matches: &ArgMatches<'_>) -> Result<Option<u32>, WordsFault>
-    ensures { Reads (fault_of (first_of (codes "fault") (rows_of (found_of matches.now)))) result }
+    ensures { Hears (fault_of (first_of (codes "fault") (rows_of (found_of matches.now)))) result }
 {
     match given_text(matches, "fault") {
         Some(text) => Ok(Some(read_number(text, MIN_FAULT, MAX_FAULT)? as u32)),
@@ -100,7 +100,7 @@ pub fn fault_number(matches: &ArgMatches<'_>) -> Result<Option<u32>, WordsFault>
 
 /// The size of a demonstration netlist.
 pub fn size(matches: &ArgMatches<'_>) -> Result<u32, WordsFault>
-    ensures { Reads (option_and_then (number_in limit.MIN_SIZE limit.MAX_SIZE)
+    ensures { Hears (option_and_then (number_in limit.MIN_SIZE limit.MAX_SIZE)
         (first_of (codes "size") (rows_of (found_of matches.now)))) result }
 {
     let number = wanted_number(matches, "size", MIN_SIZE, MAX_SIZE)?;
