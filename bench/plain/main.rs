@@ -228,8 +228,8 @@ fn breed(names: [&str; 3], most: usize, seed: u64) -> Result<(), Box<dyn Error>>
     let mut grader = Grader::new(&circuit, own.clone());
     let mut breeder = Breeder::new(&circuit, &own, seed);
     let mut text = BufWriter::new(File::create(names[2])?);
+    breeder.take_in(&mut grader, &given);
     for vector in &given {
-        breeder.apply(&mut grader, vector);
         writeln!(text, "{}", texts::bits(vector))?;
     }
     let mut bred = 0;
