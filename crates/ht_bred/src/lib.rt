@@ -8,9 +8,11 @@
 #![tactic(auto)]
 
 mod bred;
+mod bred_text;
 mod bursts;
 mod live;
 mod vectors;
 
 pub use bred::{Bred, bred_vectors};
+pub use bred_text::write_bred;
 pub use bursts::{Bursts, Gain};

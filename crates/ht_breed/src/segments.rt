@@ -17,7 +17,7 @@ pub struct Detected {
 
 // How many faults each segment of so many vectors detected.
 fn gains(alloc: Global, vectors: u64, detected: &[Detected]) -> Result<Vec<usize>, AllocError> {
-    let mut gains = vec![in alloc; 0; vectors.div_ceil(SEGMENT) as usize]?;
+    let mut gains = vec![in alloc; 0usize; vectors.div_ceil(SEGMENT) as usize]?;
     for one in detected {
         if let Some(gain) = gains.get_mut((one.vector / SEGMENT) as usize) {
             *gain = gain.saturating_add(1);
