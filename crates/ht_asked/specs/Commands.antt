@@ -10,10 +10,10 @@ use Rattle.ht_ports.specs.declared.ports.InPort.TheVariants as in_port
 use Rattle.ht_ports.specs.declared.ports.OutPort.{OutPort}
 use Rattle.ht_ports.specs.declared.ports.OutPort.TheVariants as out_port
 use Rattle.ht_asked.specs.declared.limits.TheConstants.{DEFAULT_BUDGET, MAX_BUDGET, MIN_BUDGET}
-use Rattle.ht_asked.specs.declared.limits.TheConstants.{DEFAULT_RANDOM, DEFAULT_SEED, MAX_RANDOM, MAX_SEED}
+use Rattle.ht_asked.specs.declared.limits.TheConstants.{DEFAULT_BRED, DEFAULT_RANDOM, DEFAULT_SEED, MAX_BRED, MAX_RANDOM, MAX_SEED}
 use Rattle.ht_asked.specs.declared.limits.TheConstants.{MAX_FAULT, MAX_SIZE, MIN_FAULT, MIN_SIZE}
 use Rattle.ht_asked.specs.Asked.{Asked, InNames, Kind, Numbers, OutNames, makes_nothing, reads_nothing}
-use Rattle.ht_asked.specs.Asked.{sim, gen, check, norm, demo, compact, diagnose, uninit, sync, respond, report}
+use Rattle.ht_asked.specs.Asked.{sim, gen, check, norm, demo, compact, diagnose, uninit, sync, respond, report, breed}
 use Rattle.ht_asked.specs.Forms.{Form, Given, given}
 use Rattle.ht_asked.specs.Numbers.{number_in, number_or}
 
@@ -31,6 +31,7 @@ pub data Role : Type 0 where
   says_budget : Role
   says_random : Role
   says_weighted : Role
+  says_bred : Role
   says_seed : Role
   says_depth : Role
   says_fault : Role
@@ -129,10 +130,12 @@ command_row respond = row_with (codes "respond") (of_netlist ∷ of_tests ∷ of
 command_row report = row_with (codes "report")
     (of_netlist ∷ of_tests ∷ input (codes "proofs") in_port.Proofs ∷ output (codes "report") out_port.Report ∷ [])
     (of_budget ∷ of_start ∷ [])
+command_row breed = row_with (codes "breed") (of_netlist ∷ of_tests ∷ output (codes "out") out_port.Tests ∷ [])
+    (number (codes "vectors") says_bred ∷ number (codes "seed") says_seed ∷ of_start ∷ [])
 
 -- the commands, in the order of the usage line
 abbrev pub kinds : List Kind
-kinds = sim ∷ gen ∷ check ∷ norm ∷ demo ∷ compact ∷ diagnose ∷ uninit ∷ sync ∷ respond ∷ report ∷ []
+kinds = sim ∷ gen ∷ check ∷ norm ∷ demo ∷ compact ∷ diagnose ∷ uninit ∷ sync ∷ respond ∷ report ∷ breed ∷ []
 
 -- the command may state a start
 abbrev pub takes_start : Kind → Bool
@@ -149,7 +152,11 @@ budget_of = number_or DEFAULT_BUDGET MIN_BUDGET MAX_BUDGET
 abbrev pub random_of : Option Text → Option ℕ
 random_of = number_or DEFAULT_RANDOM 0 MAX_RANDOM
 
--- the seed of random and weighted vectors, or of a demonstration netlist, where the text is one or is left out
+-- how many vectors are bred at most, where the option's text says it or is left out
+abbrev pub bred_of : Option Text → Option ℕ
+bred_of = number_or DEFAULT_BRED 0 MAX_BRED
+
+-- the seed of random, weighted and bred vectors, or of a demonstration netlist, where the text is one or is left out
 abbrev pub seed_of : Option Text → Option ℕ
 seed_of = number_or DEFAULT_SEED 0 MAX_SEED
 
@@ -175,6 +182,7 @@ pub record NumberTexts : Type 0 where
   pub budget : Option Text
   pub random : Option Text
   pub weighted : Option Text
+  pub bred : Option Text
   pub seed : Option Text
   pub depth : Option Text
   pub fault : Option Text
@@ -195,6 +203,7 @@ nothing_sorted = record {
     budget = None;
     random = None;
     weighted = None;
+    bred = None;
     seed = None;
     depth = None;
     fault = None;
@@ -217,6 +226,7 @@ sort_in (file_made port) text s = s
 sort_in says_budget text s = record s { numbers = record s.numbers { budget = text } }
 sort_in says_random text s = record s { numbers = record s.numbers { random = text } }
 sort_in says_weighted text s = record s { numbers = record s.numbers { weighted = text } }
+sort_in says_bred text s = record s { numbers = record s.numbers { bred = text } }
 sort_in says_seed text s = record s { numbers = record s.numbers { seed = text } }
 sort_in says_depth text s = record s { numbers = record s.numbers { depth = text } }
 sort_in says_fault text s = record s { numbers = record s.numbers { fault = text } }
@@ -234,24 +244,25 @@ sorted_by row positionals options = option_and_then (λ s. sorted s row.options 
     (sorted nothing_sorted row.positionals (map Some positionals))
 
 -- the numbers and choices, where each is one
-abbrev pub numbers_with : Option ℕ → Option ℕ → Option ℕ → Option ℕ → Option Bool → Option (Option ℕ) → Option ℕ
-    → Option Numbers
-numbers_with (Some budget) (Some random) (Some weighted) (Some seed) (Some deep) (Some fault) (Some size) =
+abbrev pub numbers_with : Option ℕ → Option ℕ → Option ℕ → Option ℕ → Option ℕ → Option Bool → Option (Option ℕ)
+    → Option ℕ → Option Numbers
+numbers_with (Some budget) (Some random) (Some weighted) (Some bred) (Some seed) (Some deep) (Some fault) (Some size) =
     Some (record {
       budget = budget;
       random = random;
       weighted = weighted;
+      bred = bred;
       seed = seed;
       deep = deep;
       fault = fault;
       size = size;
     })
-numbers_with _ _ _ _ _ _ _ = None
+numbers_with _ _ _ _ _ _ _ _ = None
 
 -- the numbers and choices that their texts say, where each of them says one
 abbrev pub numbers_said : NumberTexts → Option Numbers
-numbers_said t = numbers_with (budget_of t.budget) (random_of t.random) (random_of t.weighted) (seed_of t.seed)
-    (deep_of t.depth) (fault_of t.fault) (demo_size t.size)
+numbers_said t = numbers_with (budget_of t.budget) (random_of t.random) (random_of t.weighted) (bred_of t.bred)
+    (seed_of t.seed) (deep_of t.depth) (fault_of t.fault) (demo_size t.size)
 
 -- the job of a command that the texts of its arguments ask for, where each of its numbers is one
 abbrev pub job_said : Kind → Sorted → Option Asked

@@ -41,6 +41,7 @@ fn arguments_of(word: &str) -> Option<Arguments>
             &["netlist", "tests", "proofs", "report"],
             &["budget", "start"],
         ),
+        "breed" => (&["netlist", "tests", "out"], &["vectors", "seed", "start"]),
         _ => return None,
     };
     Some(Arguments {

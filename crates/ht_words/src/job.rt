@@ -135,6 +135,21 @@ pub enum Job {
         /// The start to read, if one is stated.
         start: Option<FileName>,
     },
+    /// Writes the tests, and then vectors that are bred after them.
+    Breed {
+        /// The netlist to read.
+        netlist: FileName,
+        /// The tests to read.
+        tests: FileName,
+        /// The tests to write.
+        out: FileName,
+        /// How many vectors are bred at most, 0 to 100,000.
+        vectors: u32,
+        /// The seed of the bred vectors.
+        seed: u64,
+        /// The start to read, if one is stated.
+        start: Option<FileName>,
+    },
     /// Writes the report that the tests and the proofs justify.
     Report {
         /// The netlist, the tests and the proofs to read, and the report to write.

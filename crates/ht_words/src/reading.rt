@@ -9,7 +9,7 @@ ghost use Rattle.ht_words.specs.declared.job.WordsFault.TheVariants as fault;
 
 use crate::definitions::definition;
 use crate::job::{GenOptions, Job, RunFiles, WordsFault};
-use crate::number::{budget, fault_number, random, seed, size, wanted_number};
+use crate::number::{bred, budget, fault_number, random, seed, size, wanted_number};
 use crate::value::{given_text, optional_value, value};
 use clap::error::ErrorKind;
 use clap::{ArgMatches, Command};
@@ -72,6 +72,7 @@ fn job(alloc: Global, word: &str, matches: &ArgMatches<'_>) -> Result<Job, Words
         "sync" => sync_job(alloc, matches),
         "respond" => respond_job(alloc, matches),
         "report" => report_job(alloc, matches),
+        "breed" => breed_job(alloc, matches),
         _ => Err(WordsFault::Usage),
     }
 }
@@ -222,6 +223,17 @@ fn report_job(alloc: Global, matches: &ArgMatches<'_>) -> Result<Job, WordsFault
         budget,
         start,
     })
+}
+
+/// The job of `breed`.
+fn breed_job(alloc: Global, matches: &ArgMatches<'_>) -> Result<Job, WordsFault>
+    ensures { IsAnswer (asked_in_rows (command_of kind.breed) (rows_of (found_of matches.now)))
+        result }
+{
+    let vectors = bred(matches)?;
+    let seed = seed(matches)?;
+    let start = optional_value(alloc, matches, "start")?;
+    with_values!(alloc, matches => Job::Breed { netlist, tests, out; vectors, seed, start })
 }
 
 /// Whether the search is deep: the option's value is `plain` or `deep`.
