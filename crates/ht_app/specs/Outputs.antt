@@ -85,7 +85,6 @@ MakesOneFile sim = Unit {0}
 MakesOneFile compact = Unit {0}
 MakesOneFile diagnose = Unit {0}
 MakesOneFile uninit = Unit {0}
-MakesOneFile breed = Unit {0}
 MakesOneFile kind = ⊥
 
 -- The job makes a file at the port, of whose name this is so.

@@ -1,5 +1,5 @@
 //! The command `breed`.
-ghost use Rattle.std.specs.Prelude.{◌≡◌, List, ℕ, IfOk};
+ghost use Rattle.std.specs.Prelude.{◌≡◌, IfOk};
 ghost use Rattle.ht_ports.specs.declared.ports.OutPort.TheVariants as out_port;
 ghost use Rattle.ht_net.specs.Detect.Detection.{IsStart};
 ghost use Rattle.ht_faults.specs.Sites.{faults_of};
@@ -7,17 +7,18 @@ ghost use Rattle.ht_faults.specs.Classes.{AreClasses};
 ghost use Rattle.ht_words.specs.Jobs.{asked_by};
 ghost use Rattle.ht_words.specs.declared.job.Job.TheVariants as job_of;
 ghost use Rattle.ht_app.specs.Outputs.{AreBredTexts, IsBreeding, file_acts};
-ghost use Rattle.ht_app.specs.Steps.{Prepares};
+ghost use Rattle.ht_app.specs.Steps.{EndsJob, Prepares};
 
 use crate::made::{Made, or_no_memory};
+use crate::output::finish;
 use ht_bred::{Bred, bred_vectors, write_bred};
 use ht_faults::Classes;
 use ht_files::write_test_text;
 use ht_inputs::{Listed, RunError, list_faults, read_netlist, read_stated, read_tests};
 use ht_net::{Circuit, Vectors};
-use ht_ports::Desk;
+use ht_ports::{Desk, OutPort};
 use ht_tern::Tern;
-use ht_words::FileName;
+use ht_words::{BreedFiles, BreedOptions};
 use std::alloc::{AllocError, Global};
 
 // The text of all vectors, and the line that says what was bred.
@@ -84,26 +85,37 @@ fn bred_texts(
     }
 }
 
-/// Reads the netlist, the start if one is stated, and the tests, in this order, and breeds vectors after them.
-///
-/// # Errors
-/// Those of the files, or out of memory.
-pub fn breed<D: Desk>(
+// Reads the netlist, the start if one is stated, and the tests, in this order, and breeds vectors after them.
+fn make_texts<D: Desk>(
     alloc: Global,
-    netlist: &FileName,
-    tests: &FileName,
-    vectors: u32,
-    seed: u64,
-    start: &Option<FileName>,
+    files: &BreedFiles,
+    options: &BreedOptions,
     desk: &mut D,
 ) -> Result<Made, RunError>
-    ensures { (out : List ℕ) → Prepares
-        (asked_by (job_of.Breed netlist.now tests.now out vectors seed start.now))
-        (λ made. file_acts out_port.Tests out made.body.items made.total.items) result
+    ensures { Prepares (asked_by (job_of.Breed files.now options.now))
+        (λ made. file_acts out_port.Tests files.now.out made.body.items made.total.items) result
         (D.view desk.old) (D.view desk.new) }
 {
-    let circuit = read_netlist(alloc, desk, netlist.as_str())?;
-    let start = read_stated(alloc, desk, &circuit, start)?;
-    let list = read_tests(alloc, desk, tests.as_str(), &circuit, u64::MAX)?;
+    let circuit = read_netlist(alloc, desk, files.netlist.as_str())?;
+    let start = read_stated(alloc, desk, &circuit, &options.start)?;
+    let list = read_tests(alloc, desk, files.tests.as_str(), &circuit, u64::MAX)?;
+    let (vectors, seed) = (options.vectors, options.seed);
     or_no_memory(bred_texts(alloc, &circuit, &start, list, vectors, seed))
+}
+
+/// Breeds vectors after those of the tests, and writes both.
+///
+/// # Errors
+/// Those of the files, out of memory, or a write failed.
+pub fn breed<D: Desk>(
+    alloc: Global,
+    files: &BreedFiles,
+    options: &BreedOptions,
+    desk: &mut D,
+) -> Result<(), RunError>
+    ensures { EndsJob (asked_by (job_of.Breed files.now options.now)) result (D.view desk.old)
+        (D.view desk.new) }
+{
+    let made = make_texts(alloc, files, options, desk);
+    finish(desk, OutPort::Tests, &files.out, made)
 }

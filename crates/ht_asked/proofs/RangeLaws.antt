@@ -62,14 +62,16 @@ by_numbers : (kind : Kind) (reads : InNames) (makes : OutNames) (budget random w
     → AsksInRange (option_map
     (λ (n : Numbers). record { command = kind; reads = reads; makes = makes; numbers = n })
     (numbers_with budget random weighted bred seed deep fault size))
-by_numbers kind reads makes (Some b) (Some r) (Some w) (Some n) (Some s) (Some d) (Some f) (Some z) bs rs ws ns ss fs zs =
+by_numbers kind reads makes (Some b) (Some r) (Some w) (Some n) (Some s) (Some d) (Some f) (Some z) bs rs ws ns ss fs
+    zs =
     record { budget = bs; random = rs.1; weighted = ws.1; bred = ns.1; seed = ss.1; fault = fs; size = zs }
 by_numbers kind reads makes _ _ _ _ _ _ _ _ bs rs ws ns ss fs zs = tt
 
 said_in_range : (kind : Kind) (texts : Sorted) → AsksInRange (job_said kind texts)
 said_in_range kind texts = by_numbers kind texts.reads texts.makes (budget_of texts.numbers.budget)
     (random_of texts.numbers.random) (random_of texts.numbers.weighted) (bred_of texts.numbers.bred)
-    (seed_of texts.numbers.seed) (deep_of texts.numbers.depth) (fault_of texts.numbers.fault) (demo_size texts.numbers.size)
+    (seed_of texts.numbers.seed) (deep_of texts.numbers.depth) (fault_of texts.numbers.fault)
+    (demo_size texts.numbers.size)
     (option_is_in_range 1000 MIN_BUDGET MAX_BUDGET (omega arith, omega arith) texts.numbers.budget)
     (option_is_in_range 0 0 MAX_RANDOM (omega arith, omega arith) texts.numbers.random)
     (option_is_in_range 0 0 MAX_RANDOM (omega arith, omega arith) texts.numbers.weighted)

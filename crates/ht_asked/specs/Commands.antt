@@ -1,6 +1,5 @@
 -- The table of the commands, a row each, and what the words of the command line ask for by it.
-use Rattle.std.specs.Prelude.{Bool, true, false, if◌then◌else◌, List, [], ◌∷◌, Option, Some, None, ℕ}
-use Rattle.std.specs.Prelude.{codes, find, map, option_and_then, option_map, String, string_bytes}
+use Rattle.std.specs.Prelude.{Bool, true, false, if◌then◌else◌, List, [], ◌∷◌, Option, Some, None, ℕ, codes, find, map, option_and_then, option_map, String, string_bytes}
 use Rattle.std.specs.Global.{Global}
 use Rattle.std.specs.List.{list_any}
 use Rattle.std.specs.Str.{bytes_eq}
@@ -9,11 +8,8 @@ use Rattle.ht_ports.specs.declared.ports.InPort.{InPort}
 use Rattle.ht_ports.specs.declared.ports.InPort.TheVariants as in_port
 use Rattle.ht_ports.specs.declared.ports.OutPort.{OutPort}
 use Rattle.ht_ports.specs.declared.ports.OutPort.TheVariants as out_port
-use Rattle.ht_asked.specs.declared.limits.TheConstants.{DEFAULT_BUDGET, MAX_BUDGET, MIN_BUDGET}
-use Rattle.ht_asked.specs.declared.limits.TheConstants.{DEFAULT_BRED, DEFAULT_RANDOM, DEFAULT_SEED, MAX_BRED, MAX_RANDOM, MAX_SEED}
-use Rattle.ht_asked.specs.declared.limits.TheConstants.{MAX_FAULT, MAX_SIZE, MIN_FAULT, MIN_SIZE}
-use Rattle.ht_asked.specs.Asked.{Asked, InNames, Kind, Numbers, OutNames, makes_nothing, reads_nothing}
-use Rattle.ht_asked.specs.Asked.{sim, gen, check, norm, demo, compact, diagnose, uninit, sync, respond, report, breed}
+use Rattle.ht_asked.specs.declared.limits.TheConstants as limit
+use Rattle.ht_asked.specs.Asked.{Asked, InNames, Kind, Numbers, OutNames, makes_nothing, reads_nothing, sim, gen, check, norm, demo, compact, diagnose, uninit, sync, respond, report, breed}
 use Rattle.ht_asked.specs.Forms.{Form, Given, given}
 use Rattle.ht_asked.specs.Numbers.{number_in, number_or}
 
@@ -21,10 +17,7 @@ use Rattle.ht_asked.specs.Numbers.{number_in, number_or}
 abbrev pub words_of : List (String Global) → List Text
 words_of = map (λ s. string_bytes s)
 
--- ---- what an argument is for
-
--- what the text of an argument is for: it names the file that is read at a port, or made at one, or it says a number
--- or a choice
+-- what an argument's text is for: it names the file that is read or made at a port, or says a number or a choice
 pub data Role : Type 0 where
   file_read : InPort → Role
   file_made : OutPort → Role
@@ -130,35 +123,34 @@ command_row respond = row_with (codes "respond") (of_netlist ∷ of_tests ∷ of
 command_row report = row_with (codes "report")
     (of_netlist ∷ of_tests ∷ input (codes "proofs") in_port.Proofs ∷ output (codes "report") out_port.Report ∷ [])
     (of_budget ∷ of_start ∷ [])
-command_row breed = row_with (codes "breed") (of_netlist ∷ of_tests ∷ output (codes "out") out_port.Tests ∷ [])
+command_row breed = row_with (codes "breed")
+    (of_netlist ∷ of_tests ∷ output (codes "out") out_port.Tests ∷ [])
     (number (codes "vectors") says_bred ∷ number (codes "seed") says_seed ∷ of_start ∷ [])
 
 -- the commands, in the order of the usage line
 abbrev pub kinds : List Kind
-kinds = sim ∷ gen ∷ check ∷ norm ∷ demo ∷ compact ∷ diagnose ∷ uninit ∷ sync ∷ respond ∷ report ∷ breed ∷ []
+kinds = sim ∷ gen ∷ check ∷ norm ∷ demo ∷ compact ∷ diagnose ∷ uninit ∷ sync ∷ respond ∷ report
+    ∷ breed ∷ []
 
 -- the command may state a start
 abbrev pub takes_start : Kind → Bool
 takes_start kind = list_any (λ (a : Argument). names_extra a.role) (command_row kind).options
 
--- ---- numbers and choices
-
 -- the budget of a search, where the option's text is one or is left out
 abbrev pub budget_of : Option Text → Option ℕ
-budget_of = number_or DEFAULT_BUDGET MIN_BUDGET MAX_BUDGET
+budget_of = number_or limit.DEFAULT_BUDGET limit.MIN_BUDGET limit.MAX_BUDGET
 
--- how many random vectors come first, or how many weighted ones after them, where the option's text says it or is left
--- out
+-- how many random vectors come first, or weighted ones after them, where the option's text says it or is left out
 abbrev pub random_of : Option Text → Option ℕ
-random_of = number_or DEFAULT_RANDOM 0 MAX_RANDOM
+random_of = number_or limit.DEFAULT_RANDOM 0 limit.MAX_RANDOM
 
 -- how many vectors are bred at most, where the option's text says it or is left out
 abbrev pub bred_of : Option Text → Option ℕ
-bred_of = number_or DEFAULT_BRED 0 MAX_BRED
+bred_of = number_or limit.DEFAULT_BRED 0 limit.MAX_BRED
 
 -- the seed of random, weighted and bred vectors, or of a demonstration netlist, where the text is one or is left out
 abbrev pub seed_of : Option Text → Option ℕ
-seed_of = number_or DEFAULT_SEED 0 MAX_SEED
+seed_of = number_or limit.DEFAULT_SEED 0 limit.MAX_SEED
 
 -- whether the search is deep, where the option's text is `plain` or `deep`, or is left out
 abbrev pub deep_of : Option Text → Option Bool
@@ -169,11 +161,11 @@ deep_of (Some text) = if bytes_eq text (codes "plain") then Some false
 -- the number of a fault, where the option's text is one, or none where it is left out
 abbrev pub fault_of : Option Text → Option (Option ℕ)
 fault_of None = Some None
-fault_of (Some text) = option_map Some (number_in MIN_FAULT MAX_FAULT text)
+fault_of (Some text) = option_map Some (number_in limit.MIN_FAULT limit.MAX_FAULT text)
 
 -- the size of a demonstration netlist, where the text is one
 abbrev pub demo_size : Option Text → Option ℕ
-demo_size = number_or MIN_SIZE MIN_SIZE MAX_SIZE
+demo_size = number_or limit.MIN_SIZE limit.MIN_SIZE limit.MAX_SIZE
 
 -- ---- what a command's words ask for
 
@@ -244,9 +236,10 @@ sorted_by row positionals options = option_and_then (λ s. sorted s row.options 
     (sorted nothing_sorted row.positionals (map Some positionals))
 
 -- the numbers and choices, where each is one
-abbrev pub numbers_with : Option ℕ → Option ℕ → Option ℕ → Option ℕ → Option ℕ → Option Bool → Option (Option ℕ)
-    → Option ℕ → Option Numbers
-numbers_with (Some budget) (Some random) (Some weighted) (Some bred) (Some seed) (Some deep) (Some fault) (Some size) =
+abbrev pub numbers_with : Option ℕ → Option ℕ → Option ℕ → Option ℕ → Option ℕ → Option Bool
+    → Option (Option ℕ) → Option ℕ → Option Numbers
+numbers_with (Some budget) (Some random) (Some weighted) (Some bred) (Some seed) (Some deep)
+    (Some fault) (Some size) =
     Some (record {
       budget = budget;
       random = random;
@@ -261,13 +254,13 @@ numbers_with _ _ _ _ _ _ _ _ = None
 
 -- the numbers and choices that their texts say, where each of them says one
 abbrev pub numbers_said : NumberTexts → Option Numbers
-numbers_said t = numbers_with (budget_of t.budget) (random_of t.random) (random_of t.weighted) (bred_of t.bred)
-    (seed_of t.seed) (deep_of t.depth) (fault_of t.fault) (demo_size t.size)
+numbers_said t = numbers_with (budget_of t.budget) (random_of t.random) (random_of t.weighted)
+    (bred_of t.bred) (seed_of t.seed) (deep_of t.depth) (fault_of t.fault) (demo_size t.size)
 
 -- the job of a command that the texts of its arguments ask for, where each of its numbers is one
 abbrev pub job_said : Kind → Sorted → Option Asked
-job_said kind texts = option_map
-    (λ numbers. record { command = kind; reads = texts.reads; makes = texts.makes; numbers = numbers })
+job_said kind texts = option_map (λ numbers.
+    record { command = kind; reads = texts.reads; makes = texts.makes; numbers = numbers })
     (numbers_said texts.numbers)
 
 -- a command as its words are read: its name, the form of the words after it, and what they ask for

@@ -83,7 +83,10 @@ by_breed : (n t o : Text) (start : Option Text) (bred seed : Option ℕ) → Ask
       makes = record makes_nothing { tests = Some o };
       numbers = numbers;
     }) (numbers_with (Some 1000) (Some 0) (Some 0) bred seed (Some false) (Some None) (Some 1)))
-by_breed n t o start (Some b) (Some s) = (job.Breed n t o b s start, refl)
+by_breed n t o start (Some b) (Some s) = (
+  job.Breed (record { netlist = n; tests = t; out = o }) (record { vectors = b; seed = s; start = start }),
+  refl,
+)
 by_breed n t o start _ _ = tt
 
 by_names : (kind : Kind) (names : List Text) (v : Text → Option Text) → AsksForJob (asks_for kind names v)

@@ -28,7 +28,8 @@ numbers_by o = record unsaid {
 abbrev pub numbers_in : List Row → Option Numbers
 numbers_in rows = numbers_with (budget_of (first_of (codes "budget") rows))
     (random_of (first_of (codes "random") rows)) (random_of (first_of (codes "weighted") rows))
-    (Some DEFAULT_BRED) (seed_of (first_of (codes "seed") rows)) (deep_of (first_of (codes "search") rows)) (Some None) (Some MIN_SIZE)
+    (Some DEFAULT_BRED) (seed_of (first_of (codes "seed") rows))
+    (deep_of (first_of (codes "search") rows)) (Some None) (Some MIN_SIZE)
 
 -- the names of the files of a run in the rows, where none is missing
 abbrev pub files_in : List Row → Option (List Text)
@@ -116,11 +117,15 @@ asked_by (job.Respond netlist tests out fault start) = record {
   makes = record makes_nothing { report = Some out };
   numbers = record unsaid { fault = fault };
 }
-asked_by (job.Breed netlist tests out vectors seed start) = record {
+asked_by (job.Breed files options) = record {
   command = breed;
-  reads = record reads_nothing { netlist = Some netlist; tests = Some tests; extra = start };
-  makes = record makes_nothing { tests = Some out };
-  numbers = record unsaid { bred = vectors; seed = seed };
+  reads = record reads_nothing {
+    netlist = Some files.netlist;
+    tests = Some files.tests;
+    extra = options.start;
+  };
+  makes = record makes_nothing { tests = Some files.out };
+  numbers = record unsaid { bred = options.vectors; seed = options.seed };
 }
 asked_by (job.Report files budget start) = record {
   command = report;

@@ -8,7 +8,7 @@ ghost use Rattle.ht_words.specs.Jobs.{IsAnswer, IsReadAs, Reads, demo_in, files_
 ghost use Rattle.ht_words.specs.declared.job.WordsFault.TheVariants as fault;
 
 use crate::definitions::definition;
-use crate::job::{GenOptions, Job, RunFiles, WordsFault};
+use crate::job::{BreedFiles, BreedOptions, GenOptions, Job, RunFiles, WordsFault};
 use crate::number::{bred, budget, fault_number, random, seed, size, wanted_number};
 use crate::value::{given_text, optional_value, value};
 use clap::error::ErrorKind;
@@ -225,15 +225,22 @@ fn report_job(alloc: Global, matches: &ArgMatches<'_>) -> Result<Job, WordsFault
     })
 }
 
-/// The job of `breed`.
+// The job of `breed`.
 fn breed_job(alloc: Global, matches: &ArgMatches<'_>) -> Result<Job, WordsFault>
     ensures { IsAnswer (asked_in_rows (command_of kind.breed) (rows_of (found_of matches.now)))
         result }
 {
-    let vectors = bred(matches)?;
-    let seed = seed(matches)?;
-    let start = optional_value(alloc, matches, "start")?;
-    with_values!(alloc, matches => Job::Breed { netlist, tests, out; vectors, seed, start })
+    let options = BreedOptions {
+        vectors: bred(matches)?,
+        seed: seed(matches)?,
+        start: optional_value(alloc, matches, "start")?,
+    };
+    let files = BreedFiles {
+        netlist: value(alloc, matches, "netlist")?,
+        tests: value(alloc, matches, "tests")?,
+        out: value(alloc, matches, "out")?,
+    };
+    Ok(Job::Breed { files, options })
 }
 
 /// Whether the search is deep: the option's value is `plain` or `deep`.

@@ -38,36 +38,24 @@ returns-in-Uninit g c =
     ends_as kind.is (c.finish-in-Uninit.ensures (asked_by (job_of.Uninit kind.netlist kind.out kind.budget))
     (g.D.Desk.view c.args.desk.now) refl refl (c.uninit-made.ensures kind.out))
 
-pub returns-in-Breed : goal.returns-in-Breed
-returns-in-Breed g c =
-    let kind = c.in-Breed in
-    ends_as kind.is (c.finish-in-Breed.ensures (asked_by
-    (job_of.Breed kind.netlist kind.tests kind.out kind.vectors kind.seed kind.start))
-    (g.D.Desk.view c.args.desk.now) refl refl (c.breed-made.ensures kind.out))
-
 -- each job that makes one file is of one of these kinds
 none_is_left : (job : Job)
     → ((netlist tests out : List ℕ) (start : Option (List ℕ)) → job ≡ job_of.Sim netlist tests out start → ⊥)
     → ((netlist tests out : List ℕ) → job ≡ job_of.Compact netlist tests out → ⊥)
     → ((netlist tests responses out : List ℕ) → job ≡ job_of.Diagnose netlist tests responses out → ⊥)
     → ((netlist out : List ℕ) (budget : ℕ) → job ≡ job_of.Uninit netlist out budget → ⊥)
-    → ((netlist tests out : List ℕ) (vectors seed : ℕ) (start : Option (List ℕ))
-    → job ≡ job_of.Breed netlist tests out vectors seed start → ⊥)
     → MakesOneFile (asked_by job).command → ⊥
-none_is_left (job_of.Sim netlist tests out start) no_sim no_compact no_diagnose no_uninit no_breed one =
+none_is_left (job_of.Sim netlist tests out start) no_sim no_compact no_diagnose no_uninit one =
     no_sim netlist tests out start refl
-none_is_left (job_of.Compact netlist tests out) no_sim no_compact no_diagnose no_uninit no_breed one =
+none_is_left (job_of.Compact netlist tests out) no_sim no_compact no_diagnose no_uninit one =
     no_compact netlist tests out refl
-none_is_left (job_of.Diagnose netlist tests responses out) no_sim no_compact no_diagnose no_uninit no_breed one =
+none_is_left (job_of.Diagnose netlist tests responses out) no_sim no_compact no_diagnose no_uninit one =
     no_diagnose netlist tests responses out refl
-none_is_left (job_of.Uninit netlist out budget) no_sim no_compact no_diagnose no_uninit no_breed one =
+none_is_left (job_of.Uninit netlist out budget) no_sim no_compact no_diagnose no_uninit one =
     no_uninit netlist out budget refl
-none_is_left (job_of.Breed netlist tests out vectors seed start) no_sim no_compact no_diagnose no_uninit no_breed one =
-    no_breed netlist tests out vectors seed start refl
-none_is_left job no_sim no_compact no_diagnose no_uninit no_breed one = one
+none_is_left job no_sim no_compact no_diagnose no_uninit one = one
 
 pub unreachable-requires : goal.unreachable-requires
 unreachable-requires g c =
     let other = c.in_default in
-    none_is_left c.args.job.now other.not-Sim other.not-Compact other.not-Diagnose other.not-Uninit other.not-Breed
-    c.requires
+    none_is_left c.args.job.now other.not-Sim other.not-Compact other.not-Diagnose other.not-Uninit c.requires

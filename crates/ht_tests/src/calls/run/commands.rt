@@ -179,9 +179,6 @@ OUTPUT(a)
 ~with t 0 vectors 2 bred 0 detected 2 of 2
 1
 0
-~left r
-1
-0
 ~run breed n t r --start s
 ~given n < TOGGLE
 ~given t
