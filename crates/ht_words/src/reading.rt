@@ -230,10 +230,13 @@ fn breed_job(alloc: Global, matches: &ArgMatches<'_>) -> Result<Job, WordsFault>
     ensures { IsAnswer (asked_in_rows (command_of kind.breed) (rows_of (found_of matches.now)))
         result }
 {
+    let vectors = bred(matches)?;
+    let seed = seed(matches)?;
+    let start = optional_value(alloc, matches, "start")?;
     let options = BreedOptions {
-        vectors: bred(matches)?,
-        seed: seed(matches)?,
-        start: optional_value(alloc, matches, "start")?,
+        vectors,
+        seed,
+        start,
     };
     let files = BreedFiles {
         netlist: value(alloc, matches, "netlist")?,
