@@ -27,7 +27,7 @@ use Rattle.ht_uninit.specs.Records.{IsUninit, UninitHolds, UninitState}
 use Rattle.ht_uninit.specs.UninitTexts.{uninit_text, uninit_total}
 use Rattle.ht_asked.specs.Asked.{Asked}
 use Rattle.ht_asked.specs.Table.{Kind}
-use Rattle.ht_asked.specs.Table.{sim, gen, check, norm, demo, compact, diagnose, uninit, sync, respond, report}
+use Rattle.ht_asked.specs.Table.{sim, gen, check, norm, demo, compact, diagnose, uninit, sync, respond, report, breed}
 use Rattle.ht_words.specs.Jobs.{made_by}
 use Rattle.ht_app.specs.Changed.{output_name}
 use Rattle.ht_sync.specs.SyncSearches.{FindsWithin, IsSynchronized, SynchronizedHolds}
@@ -44,6 +44,10 @@ use Rattle.ht_proofs.specs.Detections.{AreFirstDetections}
 use Rattle.ht_texts.specs.declared.said.Said.{Said}
 use Rattle.ht_texts.specs.Verdicts.{saids_of}
 use Rattle.ht_texts.specs.Tests.{test_text}
+use Rattle.ht_faults.specs.Classes.{own_representatives}
+use Rattle.ht_bred.specs.Bred.{IsBred}
+use Rattle.ht_bred.specs.BredText.{bred_line}
+use Rattle.ht_bred.specs.declared.bred.Bred.{Bred}
 use Rattle.ht_compact.specs.Compacts.{Compacts}
 use Rattle.ht_compact.specs.CompactionText.{compaction_line}
 use Rattle.ht_tern.specs.declared.tern.Tern.{Tern}
@@ -311,6 +315,26 @@ pub record WritesResponses (out : List ℕ) (c : net.Netlist) (number : Option �
   pub so : IsResponses c fault start list body last said
   pub acts_are : acts ≡ response_acts out body said last
 
+-- ---- `breed`
+
+-- The text is that of all vectors, and the total line says how many of them were given and how many bred, and how many
+-- of the representatives they detect.
+pub record AreBredTexts (representatives : List ℕ) (given : ℕ) (bred : Bred)
+    (text total : List ℕ) : Type 0 where
+  pub text_is : text ≡ test_text bred.vectors.list
+  pub total_is : total
+      ≡ with_lf (bred_line given bred.count bred.detected (length (own_representatives representatives)))
+
+-- The text is that of these vectors and of at most so many others after them, and the total line says what all of them
+-- detect from the start.
+pub record IsBreeding (c : Netlist) (start : List Tern) (list : List (List Bool)) (most : ℕ)
+    (text total : List ℕ) : Type 0 where
+  pub representatives : List ℕ
+  pub bred : Bred
+  pub classes : AreClasses c representatives
+  pub is_bred : IsBred c representatives start list most bred
+  pub texts : AreBredTexts representatives (length list) bred text total
+
 -- ---- all commands
 
 -- What each command does to its outputs, once its inputs say the basis.
@@ -340,6 +364,8 @@ OutputOf report job basis acts = (basis.content.budget ≡ job.numbers.budget) �
     × MakesAt job Report
     (λ out. WritesFile Report out (λ body total. IsReportOfVerdicts basis.circuit
     basis.representatives basis.content.budget basis.content.saids (body ++ total) total) acts)
+OutputOf breed job basis acts = MakesAt job Tests (λ out. WritesFile Tests out
+    (IsBreeding basis.circuit basis.content.start basis.content.list job.numbers.bred) acts)
 
 -- what the command of a job does
 abbrev pub MakesOutput : Asked → JobBasis → List Act → Type 0

@@ -5,7 +5,7 @@ use Rattle.clap.specs.Walk.{Text}
 use Rattle.ht_asked.specs.Forms.{given, parts}
 use Rattle.ht_asked.specs.Asked.{Asked, InNames, Numbers, OutNames, makes_nothing, reads_nothing, unsaid}
 use Rattle.ht_asked.specs.Table.{Kind}
-use Rattle.ht_asked.specs.Table.{check, compact, demo, diagnose, gen, report, respond, sync, uninit}
+use Rattle.ht_asked.specs.Table.{breed, check, compact, demo, diagnose, gen, report, respond, sync, uninit}
 use Rattle.ht_asked.specs.Commands.{asked, budget_of, command_of}
 use Rattle.ht_asked.specs.ByClap.{app_with, given_by_clap}
 use Rattle.ht_asked.proofs.States.{AreReadable}
@@ -186,6 +186,19 @@ reports : map asks (codes "report n t p r" ∷ codes "report --budget=007 n t p 
     ∷ None ∷ None ∷ None ∷ None ∷ []
 unfolding asked given parts
 reports = refl
+
+abbrev breeds : ℕ → ℕ → Option Text → Option Asked
+breeds bred seed start = job_of breed (record (of_tests (codes "t")) { extra = start })
+    (record makes_nothing { tests = Some (codes "o") }) (record unsaid { bred = bred; seed = seed })
+
+-- `breed` has three names, and may have a count of vectors, a seed and a start
+breeding : map asks (codes "breed n t o" ∷ codes "breed --vectors=0 n t o --seed 7" ∷ codes "breed n t --start s o"
+    ∷ codes "breed n t o --vectors 100000" ∷ codes "breed n t o --vectors 100001" ∷ codes "breed n t"
+    ∷ codes "breed n t o --budget=5" ∷ [])
+    ≡ breeds 2000 0 None ∷ breeds 0 7 None ∷ breeds 2000 0 (Some (codes "s")) ∷ breeds 100000 0 None
+    ∷ None ∷ None ∷ None ∷ []
+unfolding asked given parts
+breeding = refl
 
 -- `clap` reads the command's form as the plain reading does
 by_clap : (words : List Text) → AreReadable words

@@ -6,14 +6,14 @@ use Rattle.std.specs.Str.{bytes_eq}
 use Rattle.clap.specs.Walk.{Text}
 use Rattle.ht_ports.specs.declared.ports.InPort.TheVariants as in_port
 use Rattle.ht_ports.specs.declared.ports.OutPort.TheVariants as out_port
-use Rattle.ht_asked.specs.declared.limits.TheConstants.{DEFAULT_BUDGET, MAX_BUDGET, MIN_BUDGET}
+use Rattle.ht_asked.specs.declared.limits.TheConstants.{DEFAULT_BRED, DEFAULT_BUDGET, MAX_BRED, MAX_BUDGET, MIN_BUDGET}
 use Rattle.ht_asked.specs.declared.limits.TheConstants.{DEFAULT_RANDOM, DEFAULT_SEED, MAX_RANDOM, MAX_SEED}
 use Rattle.ht_asked.specs.declared.limits.TheConstants.{MAX_FAULT, MAX_SIZE, MIN_FAULT, MIN_SIZE}
 use Rattle.ht_asked.specs.Asked.{Asked, InNames, Numbers, OutNames, makes_nothing, reads_nothing}
 use Rattle.ht_asked.specs.Forms.{Form, Given, given}
 use Rattle.ht_asked.specs.Numbers.{number_in, number_or}
 use Rattle.ht_asked.specs.Table.{Argument, Kind, Role, Row, command_row, file_made, file_read, kinds, says_budget}
-use Rattle.ht_asked.specs.Table.{says_depth, says_fault, says_random, says_seed, says_size, says_weighted}
+use Rattle.ht_asked.specs.Table.{says_bred, says_depth, says_fault, says_random, says_seed, says_size, says_weighted}
 
 -- the words as their bytes
 abbrev pub words_of : List (String Global) → List Text
@@ -30,7 +30,11 @@ budget_of = number_or DEFAULT_BUDGET MIN_BUDGET MAX_BUDGET
 abbrev pub random_of : Option Text → Option ℕ
 random_of = number_or DEFAULT_RANDOM 0 MAX_RANDOM
 
--- the seed of random and weighted vectors, or of a demonstration netlist, where the text is one or is left out
+-- how many vectors are bred at most, where the option's text says it or is left out
+abbrev pub bred_of : Option Text → Option ℕ
+bred_of = number_or DEFAULT_BRED 0 MAX_BRED
+
+-- the seed of random, weighted and bred vectors, or of a demonstration netlist, where the text is one or is left out
 abbrev pub seed_of : Option Text → Option ℕ
 seed_of = number_or DEFAULT_SEED 0 MAX_SEED
 
@@ -56,6 +60,7 @@ pub record NumberTexts : Type 0 where
   pub budget : Option Text
   pub random : Option Text
   pub weighted : Option Text
+  pub bred : Option Text
   pub seed : Option Text
   pub depth : Option Text
   pub fault : Option Text
@@ -76,6 +81,7 @@ nothing_sorted = record {
     budget = None;
     random = None;
     weighted = None;
+    bred = None;
     seed = None;
     depth = None;
     fault = None;
@@ -98,6 +104,7 @@ sort_in (file_made port) text s = s
 sort_in says_budget text s = record s { numbers = record s.numbers { budget = text } }
 sort_in says_random text s = record s { numbers = record s.numbers { random = text } }
 sort_in says_weighted text s = record s { numbers = record s.numbers { weighted = text } }
+sort_in says_bred text s = record s { numbers = record s.numbers { bred = text } }
 sort_in says_seed text s = record s { numbers = record s.numbers { seed = text } }
 sort_in says_depth text s = record s { numbers = record s.numbers { depth = text } }
 sort_in says_fault text s = record s { numbers = record s.numbers { fault = text } }
@@ -116,27 +123,26 @@ sorted_by row positionals options = option_and_then (λ s. sorted s row.options 
     (sorted nothing_sorted row.positionals (map Some positionals))
 
 -- the numbers and choices, where each is one
-abbrev pub numbers_with : Option ℕ → Option ℕ → Option ℕ → Option ℕ → Option Bool
-    → Option (Option ℕ) → Option ℕ
-    → Option Numbers
-numbers_with (Some budget) (Some random) (Some weighted) (Some seed) (Some deep) (Some fault)
-    (Some size) =
+abbrev pub numbers_with : Option ℕ → Option ℕ → Option ℕ → Option ℕ → Option ℕ → Option Bool
+    → Option (Option ℕ) → Option ℕ → Option Numbers
+numbers_with (Some budget) (Some random) (Some weighted) (Some bred) (Some seed) (Some deep)
+    (Some fault) (Some size) =
     Some (record {
       budget = budget;
       random = random;
       weighted = weighted;
+      bred = bred;
       seed = seed;
       deep = deep;
       fault = fault;
       size = size;
     })
-numbers_with _ _ _ _ _ _ _ = None
+numbers_with _ _ _ _ _ _ _ _ = None
 
 -- the numbers and choices that their texts say, where each of them says one
 abbrev pub numbers_said : NumberTexts → Option Numbers
 numbers_said t = numbers_with (budget_of t.budget) (random_of t.random) (random_of t.weighted)
-    (seed_of t.seed)
-    (deep_of t.depth) (fault_of t.fault) (demo_size t.size)
+    (bred_of t.bred) (seed_of t.seed) (deep_of t.depth) (fault_of t.fault) (demo_size t.size)
 
 -- the job of a command that the texts of its arguments ask for, where each of its numbers is one
 abbrev pub job_said : Kind → Sorted → Option Asked

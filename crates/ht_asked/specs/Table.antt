@@ -17,6 +17,7 @@ pub data Role : Type 0 where
   says_budget : Role
   says_random : Role
   says_weighted : Role
+  says_bred : Role
   says_seed : Role
   says_depth : Role
   says_fault : Role
@@ -79,6 +80,7 @@ pub data Kind : Type 0 where
   sync : Kind
   respond : Kind
   report : Kind
+  breed : Kind
 
 -- a command: its name in lower case, its positionals in their order, and its options; whether it says something on Out,
 -- whether it does so before the work, and whether it makes its files before the work
@@ -134,10 +136,14 @@ command_row report = row_with (codes "report")
     (of_netlist ∷ of_tests ∷ input (codes "proofs") in_port.Proofs
     ∷ output (codes "report") out_port.Report ∷ [])
     (of_budget ∷ of_start ∷ [])
+command_row breed = row_with (codes "breed")
+    (of_netlist ∷ of_tests ∷ output (codes "out") out_port.Tests ∷ [])
+    (number (codes "vectors") says_bred ∷ number (codes "seed") says_seed ∷ of_start ∷ [])
 
 -- the commands, in the order of the usage line
 abbrev pub kinds : List Kind
-kinds = sim ∷ gen ∷ check ∷ norm ∷ demo ∷ compact ∷ diagnose ∷ uninit ∷ sync ∷ respond ∷ report ∷ []
+kinds = sim ∷ gen ∷ check ∷ norm ∷ demo ∷ compact ∷ diagnose ∷ uninit ∷ sync ∷ respond ∷ report
+    ∷ breed ∷ []
 
 -- the command may state a start
 abbrev pub takes_start : Kind → Bool

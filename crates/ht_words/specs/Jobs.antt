@@ -1,9 +1,9 @@
 -- Jobs as what words ask for.
 use Rattle.std.specs.Prelude.{◌≡◌, ◌∷◌, List, [], Option, Some, None, Result, Err, IfOk, ℕ, codes, map, option_and_then}
 use Rattle.clap.specs.Words.{Row, Text, first_of}
-use Rattle.ht_asked.specs.declared.limits.TheConstants.{MAX_SEED, MAX_SIZE, MIN_SIZE}
+use Rattle.ht_asked.specs.declared.limits.TheConstants.{DEFAULT_BRED, MAX_SEED, MAX_SIZE, MIN_SIZE}
 use Rattle.ht_asked.specs.Asked.{Asked, Numbers, OutNames, makes_nothing, reads_nothing, unsaid}
-use Rattle.ht_asked.specs.Table.{sim, gen, check, norm, demo, compact, diagnose, uninit, sync, respond, report}
+use Rattle.ht_asked.specs.Table.{sim, gen, check, norm, demo, compact, diagnose, uninit, sync, respond, report, breed}
 use Rattle.ht_asked.specs.ByClap.{all_of}
 use Rattle.ht_asked.specs.Commands.{budget_of, deep_of, numbers_with, random_of, seed_of}
 use Rattle.ht_asked.specs.Numbers.{number_in}
@@ -28,8 +28,8 @@ numbers_by o = record unsaid {
 abbrev pub numbers_in : List Row → Option Numbers
 numbers_in rows = numbers_with (budget_of (first_of (codes "budget") rows))
     (random_of (first_of (codes "random") rows)) (random_of (first_of (codes "weighted") rows))
-    (seed_of (first_of (codes "seed") rows)) (deep_of (first_of (codes "search") rows)) (Some None)
-    (Some MIN_SIZE)
+    (Some DEFAULT_BRED) (seed_of (first_of (codes "seed") rows))
+    (deep_of (first_of (codes "search") rows)) (Some None) (Some MIN_SIZE)
 
 -- the names of the files of a run in the rows, where none is missing
 abbrev pub files_in : List Row → Option (List Text)
@@ -124,6 +124,16 @@ asked_by (job.Respond netlist tests out fault start) = record {
   reads = record reads_nothing { netlist = Some netlist; tests = Some tests; extra = start };
   makes = record makes_nothing { report = Some out };
   numbers = record unsaid { fault = fault };
+}
+asked_by (job.Breed files options) = record {
+  command = breed;
+  reads = record reads_nothing {
+    netlist = Some files.netlist;
+    tests = Some files.tests;
+    extra = options.start;
+  };
+  makes = record makes_nothing { tests = Some files.out };
+  numbers = record unsaid { bred = options.vectors; seed = options.seed };
 }
 asked_by (job.Report files budget start) = record {
   command = report;

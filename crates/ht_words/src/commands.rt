@@ -7,8 +7,8 @@ ghost use Rattle.ht_asked.specs.Table as kind;
 ghost use Rattle.ht_words.specs.Arguments.{arguments_form};
 ghost use Rattle.ht_words.specs.Jobs.{IsAnswer, demo_in};
 
-use crate::job::{Job, WordsFault, gen_options, run_files};
-use crate::number::{budget, fault_number, size, wanted_number};
+use crate::job::{BreedFiles, BreedOptions, Job, WordsFault, gen_options, run_files};
+use crate::number::{bred, budget, fault_number, seed, size, wanted_number};
 use crate::value::{optional_value, value};
 use clap::ArgMatches;
 use ht_asked::MAX_SEED;
@@ -48,6 +48,7 @@ pub fn arguments_of(word: &str) -> Option<Arguments>
             &["netlist", "tests", "proofs", "report"],
             &["budget", "start"],
         ),
+        "breed" => (&["netlist", "tests", "out"], &["vectors", "seed", "start"]),
         _ => return None,
     };
     Some(Arguments {
@@ -73,6 +74,7 @@ pub fn job(alloc: Global, word: &str, matches: &ArgMatches<'_>) -> Result<Job, W
         "sync" => sync_job(alloc, matches),
         "respond" => respond_job(alloc, matches),
         "report" => report_job(alloc, matches),
+        "breed" => breed_job(alloc, matches),
         _ => Err(WordsFault::Usage),
     }
 }
@@ -189,4 +191,25 @@ fn report_job(alloc: Global, matches: &ArgMatches<'_>) -> Result<Job, WordsFault
         budget,
         start,
     })
+}
+
+// The job of `breed`.
+fn breed_job(alloc: Global, matches: &ArgMatches<'_>) -> Result<Job, WordsFault>
+    ensures { IsAnswer (asked_in_rows (command_of kind.breed) (rows_of (found_of matches.now)))
+        result }
+{
+    let vectors = bred(matches)?;
+    let seed = seed(matches)?;
+    let start = optional_value(alloc, matches, "start")?;
+    let options = BreedOptions {
+        vectors,
+        seed,
+        start,
+    };
+    let files = BreedFiles {
+        netlist: value(alloc, matches, "netlist")?,
+        tests: value(alloc, matches, "tests")?,
+        out: value(alloc, matches, "out")?,
+    };
+    Ok(Job::Breed { files, options })
 }

@@ -46,6 +46,28 @@ pub struct GenOptions {
     pub deep: bool,
 }
 
+/// The names of the files of `breed`.
+#[derive(Debug, Drop)]
+pub struct BreedFiles {
+    /// The netlist to read.
+    pub netlist: FileName,
+    /// The tests to read.
+    pub tests: FileName,
+    /// The tests to write.
+    pub out: FileName,
+}
+
+/// What the options of `breed` say.
+#[derive(Debug, Drop)]
+pub struct BreedOptions {
+    /// How many vectors are bred at most, 0 to 100,000.
+    pub vectors: u32,
+    /// The seed of the bred vectors.
+    pub seed: u64,
+    /// The start to read, if one is stated.
+    pub start: Option<FileName>,
+}
+
 /// A command with the names of its files, and with its numbers.
 #[derive(Debug, Drop)]
 pub enum Job {
@@ -140,6 +162,13 @@ pub enum Job {
         fault: Option<u32>,
         /// The start to read, if one is stated.
         start: Option<FileName>,
+    },
+    /// Writes the tests, and then vectors that are bred after them.
+    Breed {
+        /// The netlist and the tests to read, and the tests to write.
+        files: BreedFiles,
+        /// What the options say.
+        options: BreedOptions,
     },
     /// Writes the report that the tests and the proofs justify.
     Report {

@@ -19,5 +19,5 @@ mod reading;
 mod value;
 
 pub use file_name::FileName;
-pub use job::{GenOptions, Job, RunFiles, WordsFault};
+pub use job::{BreedFiles, BreedOptions, GenOptions, Job, RunFiles, WordsFault};
 pub use reading::command;

@@ -1,7 +1,7 @@
 //! Numbers among the words: as their text, and as the values that `clap` found.
 ghost use Rattle.std.specs.Prelude.{codes, option_and_then};
 ghost use Rattle.clap.specs.Words.{first_of, found_of, rows_of};
-ghost use Rattle.ht_asked.specs.Commands.{budget_of, fault_of, random_of, seed_of};
+ghost use Rattle.ht_asked.specs.Commands.{bred_of, budget_of, fault_of, random_of, seed_of};
 ghost use Rattle.ht_asked.specs.declared.limits.TheConstants as limit;
 ghost use Rattle.ht_asked.specs.Numbers.{number_in, number_or};
 ghost use Rattle.ht_words.specs.Jobs.{Hears};
@@ -10,8 +10,8 @@ use crate::job::WordsFault;
 use crate::value::given_text;
 use clap::ArgMatches;
 use ht_asked::{
-    DEFAULT_BUDGET, DEFAULT_RANDOM, DEFAULT_SEED, MAX_BUDGET, MAX_FAULT, MAX_RANDOM, MAX_SEED,
-    MAX_SIZE, MIN_BUDGET, MIN_FAULT, MIN_SIZE,
+    DEFAULT_BRED, DEFAULT_BUDGET, DEFAULT_RANDOM, DEFAULT_SEED, MAX_BRED, MAX_BUDGET, MAX_FAULT,
+    MAX_RANDOM, MAX_SEED, MAX_SIZE, MIN_BUDGET, MIN_FAULT, MIN_SIZE,
 };
 
 /// The number that the text writes in the digits `0` to `9` and nothing else, where it is one from the least to the
@@ -81,7 +81,15 @@ pub fn random(matches: &ArgMatches<'_>, id: &str) -> Result<u32, WordsFault>
     Ok(number as u32)
 }
 
-/// The seed of the random and the weighted vectors.
+/// How many vectors are bred at most.
+pub fn bred(matches: &ArgMatches<'_>) -> Result<u32, WordsFault>
+    ensures { Hears (bred_of (first_of (codes "vectors") (rows_of (found_of matches.now)))) result }
+{
+    let number = number_or_default(matches, "vectors", DEFAULT_BRED, 0, MAX_BRED)?;
+    Ok(number as u32)
+}
+
+/// The seed of the random, the weighted and the bred vectors.
 pub fn seed(matches: &ArgMatches<'_>) -> Result<u64, WordsFault>
     ensures { Hears (seed_of (first_of (codes "seed") (rows_of (found_of matches.now)))) result }
 {
