@@ -114,7 +114,8 @@ replicated (suc m) n =
     let z : suc (m + n) ≡ suc m + n = omega arith in
     ap (λ (xs : List Tern). Unk ∷ xs) (replicated m n) ∙ ap (λ (k : ℕ). replicate k Unk) z
 
-pub all_unknown : (c : Netlist) (sites : List Site) → start_over (unknown_state c) sites ≡ unknown_state (expanded c sites)
+pub all_unknown : (c : Netlist) (sites : List Site)
+    → start_over (unknown_state c) sites ≡ unknown_state (expanded c sites)
 all_unknown c sites = replicated (length c.dffs) (length sites)
     ∙ ap (λ (n : ℕ). replicate n Unk) (sym (all_dffs c c sites))
 
