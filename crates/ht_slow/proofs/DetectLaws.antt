@@ -11,7 +11,7 @@ use Rattle.ht_net.specs.declared.place.Place.{Place}
 use Rattle.ht_net.specs.Circuit.Netlist.{Netlist, IsCircuit, no_net}
 use Rattle.ht_net.specs.Frames.Frame.{run_outputs}
 use Rattle.ht_net.specs.Frames.Faults.{tern_rules, bool_rules}
-use Rattle.ht_net.specs.Detect.Detection.{terns_of, DetectsFrom, IsFirstFrom, IsBefore, IsStart, IsState, unknown_state}
+use Rattle.ht_net.specs.Detect.Detection.{terns_of, DetectsFrom, IsFirstFrom, IsStart, IsState, unknown_state}
 use Rattle.ht_net.specs.Detect.Silence.{Silent}
 use Rattle.ht_net.specs.Detect.Undetectable.{IsUndetectable}
 use Rattle.ht_slow.specs.Slow.{slow, slow_bit, slow_outputs, slow_bit_outputs}

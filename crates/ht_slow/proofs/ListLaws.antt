@@ -1,6 +1,5 @@
 -- What a circuit with a list of lines expanded shows.
 use Rattle.std.proofs.Common.{◌≡◌, ◌≢◌, ◌<◌, ◌≤◌, ◌+◌, ◌*◌, ℕ, suc, zero, List, [], ◌∷◌, ◌++◌, Bool, true, false, length, get_or, Some, None, refl, sym, ◌∙◌, ap, subst, arith}
-use Rattle.std.specs.List.{All}
 use Rattle.ht_tern.specs.declared.gate.Kind.{Kind}
 use Rattle.ht_tern.specs.declared.gate.Kind.TheVariants.{And, Or}
 use Rattle.ht_net.specs.declared.fault.Site.{Site}
@@ -11,7 +10,7 @@ use Rattle.ht_net.specs.Circuit.Netlist.{Netlist, Gate, no_net}
 use Rattle.ht_net.specs.Frames.Frame.{Rules, run_outputs}
 use Rattle.ht_net.specs.Frames.Faults.{rules_of}
 use Rattle.ht_slow.specs.Slow.{outputs_with, IsLine}
-use Rattle.ht_slow.specs.ExpandedLine.{moved_line, stuck_pin, net}
+use Rattle.ht_slow.specs.ExpandedLine.{moved_line, stuck_pin}
 use Rattle.ht_slow.specs.Expanded.{line_in, names_over, expand_line, expand_on, expanded, listed_fault}
 use Rattle.ht_slow.proofs.FrameLaws.{Expands}
 use Rattle.ht_slow.proofs.RuleLaws.{other_expands, good_expands}
@@ -103,20 +102,26 @@ own_is_new c e site true over =
     let g = gates_more c e site in
     let n = over.gates in
     let z : suc (length e.gates) ≡ suc (length e.gates + 2 * 0) = omega arith in
-    subst (λ (new : ℕ). NewPin c (expand_line c e site) new) z (omega (arith, n), (
-      omega (arith, g),
-      subst (λ (gate : Gate). 0 < length gate.args)
-          (sym (second_new_gate e (line_in c e site) 0 e.gates)) (omega arith),
-    ))
+    subst (λ (new : ℕ). NewPin c (expand_line c e site) new) z (
+      omega (arith, n),
+      (
+        omega (arith, g),
+        subst (λ (gate : Gate). 0 < length gate.args)
+            (sym (second_new_gate e (line_in c e site) 0 e.gates)) (omega arith),
+      ),
+    )
 own_is_new c e site false over =
     let g = gates_more c e site in
     let n = over.gates in
     let z : length e.gates ≡ length e.gates + 2 * 0 = omega arith in
-    subst (λ (new : ℕ). NewPin c (expand_line c e site) new) z (n, (
-      omega (arith, g),
-      subst (λ (gate : Gate). 0 < length gate.args)
-          (sym (first_new_gate e (line_in c e site) 0 e.gates)) (omega arith),
-    ))
+    subst (λ (new : ℕ). NewPin c (expand_line c e site) new) z (
+      n,
+      (
+        omega (arith, g),
+        subst (λ (gate : Gate). 0 < length gate.args)
+            (sym (first_new_gate e (line_in c e site) 0 e.gates)) (omega arith),
+      ),
+    )
 
 module _ {V : Type 0} (blank : V) (gate : Kind → List V → V) (stick : Bool → V → V) (late : Bool → V → V → V)
     (absorbs : (v b : V) → gate Or (v ∷ gate And (v ∷ b ∷ []) ∷ []) ≡ v)

@@ -1,12 +1,12 @@
 -- A circuit with some lines expanded still has the lines of the circuit.
-use Rattle.std.proofs.Common.{◌≡◌, ◌≢◌, ◌<◌, ◌≤◌, ◌+◌, ◌-◌, ℕ, suc, length, cond, refl, sym, ◌∙◌, ap, subst, arith, inl, inr}
+use Rattle.std.proofs.Common.{◌≡◌, ◌<◌, ◌≤◌, ◌+◌, ◌-◌, ℕ, suc, length, cond, refl, sym, ◌∙◌, ap, subst, arith, inl, inr}
 use Rattle.std.specs.Prelude.{ltb}
 use Rattle.std.proofs.lemmas.Bool.Decides.{nat_tests}
 use Rattle.ht_net.specs.declared.fault.Site.{Site}
 use Rattle.ht_net.specs.declared.fault.Site.TheVariants.{Stem, DffPin, GatePin}
-use Rattle.ht_net.specs.Circuit.Netlist.{Netlist, Gate, first_gate_net, net_count, gate_at}
+use Rattle.ht_net.specs.Circuit.Netlist.{Netlist, first_gate_net, gate_at}
 use Rattle.ht_net.proofs.FrameLaws.{le_or_lt}
-use Rattle.ht_slow.specs.Slow.{carrier_of, IsLine}
+use Rattle.ht_slow.specs.Slow.{IsLine}
 use Rattle.ht_slow.specs.ExpandedLine.{net, moved, moved_line}
 use Rattle.ht_slow.specs.Expanded.{line_in, names_over, expand_line}
 use Rattle.ht_slow.proofs.Wired.{IsWired}

@@ -1,10 +1,10 @@
 -- A run of the circuit with one line expanded is a run of the circuit.
-use Rattle.std.proofs.Common.{◌≡◌, ◌<◌, ℕ, List, [], ◌∷◌, ◌++◌, length, refl, sym, ◌∙◌, ap}
+use Rattle.std.proofs.Common.{◌≡◌, ℕ, List, [], ◌∷◌, ◌++◌, length, refl, ◌∙◌, ap}
 use Rattle.ht_net.specs.declared.fault.Site.{Site}
-use Rattle.ht_net.specs.Circuit.Netlist.{Netlist, net_count}
+use Rattle.ht_net.specs.Circuit.Netlist.{Netlist}
 use Rattle.ht_net.specs.Frames.Frame.{Rules, frame_outputs, next_state, run_outputs}
 use Rattle.ht_net.proofs.ValueLaws.{next_long}
-use Rattle.ht_slow.specs.Slow.{outputs_with, carrier_of, carried, IsLine}
+use Rattle.ht_slow.specs.Slow.{outputs_with, carried, IsLine}
 use Rattle.ht_slow.specs.ExpandedLine.{moved_line, expanded_line}
 use Rattle.ht_slow.proofs.DepthLaws.{expanded_depth}
 use Rattle.ht_slow.proofs.FrameLaws.{Expands, frame_shows, frame_takes, carried_alike}

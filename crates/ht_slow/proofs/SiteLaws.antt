@@ -7,8 +7,6 @@ use Rattle.std.proofs.lemmas.List.Sums.{sum_by-cons}
 use Rattle.ht_net.specs.declared.net.NetId.{NetId}
 use Rattle.ht_net.specs.declared.fault.Site.{Site}
 use Rattle.ht_net.specs.declared.fault.Site.TheVariants.{Stem, DffPin, GatePin}
-use Rattle.ht_net.specs.declared.fault.Fault.{Fault}
-use Rattle.ht_net.specs.Circuit.Lists.{AllDiffer}
 use Rattle.ht_net.specs.Circuit.Netlist.{Netlist, Gate, no_net, no_gate, gate_at, arg_at, IsCircuit}
 use Rattle.ht_net.specs.Circuit.Levels.{times, loads_of}
 use Rattle.ht_net.specs.Frames.Faults.{is_pin}
@@ -20,8 +18,8 @@ use Rattle.ht_slow.proofs.DepthLaws.{old_arg_is}
 use Rattle.ht_slow.proofs.PlaceLaws.{first_new_gate, second_new_gate}
 use Rattle.ht_slow.proofs.Wired.{IsWired}
 use Rattle.ht_slow.proofs.WiredLaws.{circuit_is_wired, line_inside, expanded_is_wired}
-use Rattle.ht_slow.proofs.OverLaws.{IsOver, over_itself, over_more, line_stays, gates_more}
-use Rattle.ht_slow.proofs.ListLaws.{AllLines, NewPin, new_pin_stays, own_is_new, pin_from, pin_next, listed_is}
+use Rattle.ht_slow.proofs.OverLaws.{IsOver, over_itself, over_more, line_stays}
+use Rattle.ht_slow.proofs.ListLaws.{AllLines, NewPin, new_pin_stays, own_is_new, pin_from, pin_next}
 
 -- ---- loads
 
@@ -29,7 +27,7 @@ times_some : (x : ℕ) (args : List NetId) → 0 < length args → (get_or args 
 times_some x [] h is = absurd (omega arith)
 times_some x (a ∷ args) h is =
     let step = sum_by-cons (λ (n : NetId). cond (eqb n.0 x) 1 0) a args in
-    let one : cond (eqb a.0 x) 1 0 ≡ 1 = ap (λ (t : Bool). cond t 1 0) (eq-eqb a.0 x is) in
+    let one = ap (λ (t : Bool). let n : ℕ = cond t 1 0 in n) (eq-eqb a.0 x is) in
     omega (arith, step, one)
 
 sum_two : (f : Gate → ℕ) (gates : List Gate) (g : ℕ) → suc g < length gates
@@ -116,18 +114,20 @@ listed_site c e (site ∷ sites) zero over wired lines h =
     subst (λ (n : ℕ). NewPin c big (suc n)) z (own_is_new c e site true over) in
     let both = one_net c big sites (length e.gates) (over_more c e over wired site here)
     (expanded_is_wired e at (names_over c e site) wired there) (λ k l. lines (suc k) (omega arith)) one two
-    (own_net c e site) in
-    (subst (λ (n : ℕ). IsFaultSite (expand_on c big sites) (GatePin n 0)) (sym z) both.0,
-    subst (λ (n : ℕ). IsFaultSite (expand_on c big sites) (GatePin (suc n) 0)) (sym z) both.1)
+    (own_net c e site) in (
+      subst (λ (n : ℕ). IsFaultSite (expand_on c big sites) (GatePin n 0)) (sym z) both.0,
+      subst (λ (n : ℕ). IsFaultSite (expand_on c big sites) (GatePin (suc n) 0)) (sym z) both.1,
+    )
 listed_site c e (site ∷ sites) (suc k) over wired lines h =
     let here = lines 0 (omega arith) in
     let at : Site = line_in c e site in
     let there = line_stays c e over site here in
     let big : Netlist = expand_line c e site in
     let rest = listed_site c big sites k (over_more c e over wired site here)
-    (expanded_is_wired e at (names_over c e site) wired there) (λ i l. lines (suc i) (omega arith)) (omega arith) in
-    (subst (λ (n : ℕ). IsFaultSite (expand_on c big sites) (GatePin n 0)) (sym (pin_next c e site k false)) rest.0,
-    subst (λ (n : ℕ). IsFaultSite (expand_on c big sites) (GatePin n 0)) (sym (pin_next c e site k true)) rest.1)
+    (expanded_is_wired e at (names_over c e site) wired there) (λ i l. lines (suc i) (omega arith)) (omega arith) in (
+      subst (λ (n : ℕ). IsFaultSite (expand_on c big sites) (GatePin n 0)) (sym (pin_next c e site k false)) rest.0,
+      subst (λ (n : ℕ). IsFaultSite (expand_on c big sites) (GatePin n 0)) (sym (pin_next c e site k true)) rest.1,
+    )
 
 pub listed_is_site : (c : Netlist) (sites : List Site) (k : ℕ) (value : Bool) → IsCircuit c → AreLines c sites
     → k < length sites → IsFaultSite (expanded c sites) (listed_fault c k value).site

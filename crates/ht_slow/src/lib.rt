@@ -12,6 +12,6 @@ mod theorems;
 pub use theorems::{
     expanded_circuits_are_well_formed, expanded_good_machine_shows_the_same,
     listed_faults_stand_alone, refutations_speak_of_transition_faults,
-    the_line_of_an_expanded_circuit,
-    transition_faults_are_detected_as_stuck_pins, transition_faults_are_stuck_pins,
+    the_line_of_an_expanded_circuit, transition_faults_are_detected_as_stuck_pins,
+    transition_faults_are_stuck_pins,
 };
