@@ -15,8 +15,8 @@ use Rattle.ht_valid.specs.WritableEntries.{IsWritable}
 
 -- An entry that decides fault i from a start, whatever the budget: the fault represents its class, the entry says more
 -- than that a search was spent, it passes, the start allows the state that it names, and it can be written.
-pub record Decides (c : Netlist) (representatives : List ℕ) (start : List Tern) (i : ℕ) (made : recorded.Entry)
-    : Type 0 where
+pub record Decides (c : Netlist) (representatives : List ℕ) (start : List Tern) (i : ℕ)
+    (made : recorded.Entry) : Type 0 where
   pub own : IsOwn c representatives i
   pub more : kind_of made ≢ kind.Aborted
   pub passes : (budget : ℕ) → Passes c start (fault_at c i) budget made
@@ -31,6 +31,10 @@ pub record VerdictsView : Type 0 where
   pub grader : ClassGraderView
   pub entries : List (Option recorded.Entry)
 
+-- no fault has an entry
+abbrev pub AreNone : List (Option recorded.Entry) → Type 0
+AreNone entries = (i : ℕ) → get_or entries i None ≡ None
+
 -- the entry of fault i, or none
 abbrev pub entry_at : VerdictsView → ℕ → Option recorded.Entry
 entry_at v i = get_or v.entries i None
@@ -41,7 +45,7 @@ AllDecide v = (i : ℕ) (made : recorded.Entry) → entry_at v i ≡ Some made
     → Decides v.circuit v.representatives v.start i made
 
 -- Fault i is open: the vectors so far don't detect it, and it has no entry.
-pub record IsOpenFault (v : VerdictsView) (i : ℕ) : Type 0 where
+pub record HasNoVerdict (v : VerdictsView) (i : ℕ) : Type 0 where
   pub undetected : place_at v.grader.places i ≡ None
   pub without_entry : entry_at v i ≡ None
 

@@ -1,5 +1,5 @@
 //! The verdicts so far.
-ghost use Rattle.std.specs.Prelude.{◌≡◌, ◌↔◌, ◌<◌, ◌++◌, ℕ, [], List, Bool, IsTrue, Some, None, length, get_or, slice_set, IfOk, IfSome, OnOk, OnErr};
+ghost use Rattle.std.specs.Prelude.{◌≡◌, ◌↔◌, ◌<◌, ◌++◌, [], List, Bool, IsTrue, Some, None, length, slice_set, IfOk, IfSome, OnOk, OnErr};
 ghost use Rattle.ht_tern.specs.declared.tern.Tern as tern;
 ghost use Rattle.ht_net.specs.Detect.Detection.{IsStart};
 ghost use Rattle.ht_faults.specs.Sites.{faults_of};
@@ -7,7 +7,7 @@ ghost use Rattle.ht_faults.specs.Classes.{AreClasses};
 ghost use Rattle.ht_proofs.specs.Detections.{place_at};
 ghost use Rattle.ht_proofs.specs.ClassGraderView.{ClassGraderStandsFor};
 ghost use Rattle.ht_valid.specs.ValidFiles.{IsOwn, said_by_kind};
-ghost use Rattle.ht_verdicts.specs.Standing.{Decides, IsOpenFault, entry_at, said_by_entry};
+ghost use Rattle.ht_verdicts.specs.Standing.{AreNone, Decides, HasNoVerdict, entry_at, said_by_entry};
 
 use ht_faults::{Classes, FaultList};
 use ht_net::{Circuit, Vectors};
@@ -31,11 +31,11 @@ pub struct Verdicts<'c> {
 
 impl<'c> Model for Verdicts<'c> {
     ghost use Rattle.ht_verdicts.specs.Standing.{VerdictsView};
-    ghost use Rattle.ht_verdicts.specs.StandingOf.{AreVerdicts, verdicts_of};
+    ghost use Rattle.ht_verdicts.specs.StandingOf.{AreVerdicts, standing_of};
 
     ghost Value = { VerdictsView };
 
-    ghost view = { verdicts_of };
+    ghost view = { standing_of };
 
     ghost invariant = { AreVerdicts };
 }
@@ -43,7 +43,7 @@ impl<'c> Model for Verdicts<'c> {
 // No fault has an entry.
 fn no_entries(alloc: Global, count: u32) -> Result<Vec<Option<Entry>>, AllocError>
     ensures each { IfOk result (λ entries. length entries.items ≡ count) }
-    ensures none { IfOk result (λ entries. (i : ℕ) → get_or entries.items i None ≡ None) }
+    ensures none { IfOk result (λ entries. AreNone entries.items) }
 {
     let mut entries = Vec::with_capacity(alloc, count as usize)?;
     for fault in 0..count {
@@ -93,7 +93,7 @@ impl<'c> Verdicts<'c> {
         ensures start { IfOk result (λ verdicts. verdicts.start ≡ start.now) }
         ensures stands { IfOk result
             (λ verdicts. ClassGraderStandsFor verdicts.grader start.now []) }
-        ensures none { IfOk result (λ verdicts. (i : ℕ) → entry_at verdicts i ≡ None) }
+        ensures none { IfOk result (λ verdicts. AreNone verdicts.entries) }
     {
         let entries = no_entries(alloc, classes.len())?;
         match ClassGrader::new_from(alloc, circuit, faults, classes, start) {
@@ -137,7 +137,7 @@ impl<'c> Verdicts<'c> {
     /// Whether a representative is open: the vectors so far don't detect it, and it has no entry.
     pub fn is_open(&self, fault: u32) -> bool
         requires { IsOwn self.now.circuit self.now.representatives fault }
-        ensures { IsTrue result ↔ IsOpenFault self.now fault }
+        ensures { IsTrue result ↔ HasNoVerdict self.now fault }
     {
         if self.grader.verdict(fault).is_some() {
             return false;
