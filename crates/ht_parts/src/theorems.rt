@@ -18,22 +18,25 @@ ghost use Rattle.ht_parts.specs.JudgedInPart.{claimed_content};
 /// Of any number of parts each representative is of exactly one.
 pub fn each_class_is_in_one_part()
     ensures { (representatives : List ℕ) (i count : ℕ)
-        → is_representative representatives i ≡ true → 0 < count → (index : ℕ) × IsItsPart representatives i count index }
+        → is_representative representatives i ≡ true → 0 < count
+        → (index : ℕ) × IsItsPart representatives i count index }
 {}
 
 /// Files are valid exactly where they are valid in each of so many parts.
 pub fn parts_are_valid_where_files_are()
     ensures { (c : Netlist) (representatives : List ℕ) (start : List Tern)
-        (tests report proofs : List ℕ) (count : ℕ) → IsCircuit c → AreClasses c representatives → 0 < count
+        (tests report proofs : List ℕ) (count : ℕ) → IsCircuit c → AreClasses c representatives
+        → 0 < count
         → AreValidFiles c representatives start tests report proofs ↔ ((index : ℕ) → index < count
-        → AreValidFilesInPart c representatives (record { index = index; count = count }) start tests
-        report proofs) }
+        → AreValidFilesInPart c representatives (record { index = index; count = count }) start
+        tests report proofs) }
 {}
 
 /// Tests and proofs have one valid report of a budget, line for line.
 pub fn valid_files_have_one_report()
     ensures { (c : Netlist) (representatives : List ℕ) (start : List Tern)
-        (tests proofs report other : List ℕ) (a b : Content) → IsCircuit c → AreClasses c representatives
+        (tests proofs report other : List ℕ) (a b : Content) → IsCircuit c
+        → AreClasses c representatives
         → AreValid c representatives start tests report proofs a
         → AreValid c representatives start tests other proofs b → a.budget ≡ b.budget
         → lines_of report ≡ lines_of other }
