@@ -322,8 +322,8 @@ pub record WritesResponses (out : List ℕ) (c : net.Netlist) (number : Option �
 pub record AreBredTexts (representatives : List ℕ) (given : ℕ) (bred : Bred)
     (text total : List ℕ) : Type 0 where
   pub text_is : text ≡ test_text bred.vectors.list
-  pub total_is : total
-      ≡ with_lf (bred_line given bred.count bred.detected (length (own_representatives representatives)))
+  pub total_is : total ≡ with_lf (bred_line given bred.count bred.detected
+      (length (own_representatives representatives)))
 
 -- The text is that of these vectors and of at most so many others after them, and the total line says what all of them
 -- detect from the start.

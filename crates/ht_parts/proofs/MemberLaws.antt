@@ -12,7 +12,7 @@ use Rattle.ht_texts.specs.declared.said.Said.TheVariants.{Undetected}
 use Rattle.ht_texts.specs.Counts.{one_if}
 use Rattle.ht_texts.specs.Verdicts.{said_at}
 use Rattle.ht_parts.specs.declared.part.Part.{Part}
-use Rattle.ht_parts.specs.Parts.{is_in_part, part_members, part_saids, set_aside, turn_of}
+use Rattle.ht_parts.specs.Parts.{is_in_part, part_members, part_saids, set_aside, turn_in}
 
 -- ---- tests
 
@@ -28,14 +28,14 @@ second_true false b both = absurd (false≢true both)
 
 -- the turn after that of a representative is one more
 pub turn_more : (representatives : List ℕ) (i : ℕ) → get_or representatives i 0 ≡ i
-    → turn_of representatives (i + 1) ≡ turn_of representatives i + 1
+    → turn_in representatives (i + 1) ≡ turn_in representatives i + 1
 turn_more representatives i own =
     ap length (own_more representatives i own)
     ∙ omega (arith, length-append {A = ℕ})
 
 -- that after another fault is the same
 pub turn_same : (representatives : List ℕ) (i : ℕ) → get_or representatives i 0 ≢ i
-    → turn_of representatives (i + 1) ≡ turn_of representatives i
+    → turn_in representatives (i + 1) ≡ turn_in representatives i
 turn_same representatives i other = ap length (own_same representatives i other)
 
 module _ (representatives : List ℕ) (part : Part) where
@@ -60,11 +60,11 @@ module _ (representatives : List ℕ) (part : Part) where
   -- It is said of the first i faults whether they are members, and how many representatives they have.
   pub record AreDealt (members : List Bool) (turn i : ℕ) : Type 0 where
     pub members_are : members ≡ map (is_in_part representatives part) (range_with_len 0 i)
-    pub turn_is : turn ≡ turn_of representatives i
+    pub turn_is : turn ≡ turn_in representatives i
     pub few : turn ≤ i
 
-  next_turn : (turn i : ℕ) (own : Bool) → own ≡ is_representative representatives i → turn ≡ turn_of representatives i
-      → turn + one_if own ≡ turn_of representatives (i + 1)
+  next_turn : (turn i : ℕ) (own : Bool) → own ≡ is_representative representatives i → turn ≡ turn_in representatives i
+      → turn + one_if own ≡ turn_in representatives (i + 1)
   next_turn turn i true own is =
       ap (λ n. n + 1) is ∙ sym (turn_more representatives i (eqb-true (get_or representatives i 0) i (sym own)))
   next_turn turn i false own is =

@@ -14,13 +14,13 @@ abbrev pub IsPart : Part → Type 0
 IsPart part = part.index < part.count
 
 -- the turn of fault i: how many representatives come before it
-abbrev pub turn_of : List ℕ → ℕ → ℕ
-turn_of representatives i = length (representatives_below representatives i)
+abbrev pub turn_in : List ℕ → ℕ → ℕ
+turn_in representatives i = length (representatives_below representatives i)
 
 -- fault i is of the part: it is a representative, and its turn falls to the part, where the parts take turns
 abbrev pub is_in_part : List ℕ → Part → ℕ → Bool
 is_in_part representatives part i =
-    is_representative representatives i && (turn_of representatives i % part.count == part.index)
+    is_representative representatives i && (turn_in representatives i % part.count == part.index)
 
 -- of each fault, by number, whether it is of the part
 abbrev pub part_members : List ℕ → Part → List Bool

@@ -31,11 +31,11 @@ pub struct Verdicts<'c> {
 
 impl<'c> Model for Verdicts<'c> {
     ghost use Rattle.ht_verdicts.specs.Standing.{VerdictsView};
-    ghost use Rattle.ht_verdicts.specs.StandingOf.{AreVerdicts, standing_of};
+    ghost use Rattle.ht_verdicts.specs.StandingOf.{AreVerdicts, verdicts_view};
 
     ghost Value = { VerdictsView };
 
-    ghost view = { standing_of };
+    ghost view = { verdicts_view };
 
     ghost invariant = { AreVerdicts };
 }
