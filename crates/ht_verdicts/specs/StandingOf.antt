@@ -6,8 +6,8 @@ use Rattle.ht_verdicts.specs.declared.verdicts.Verdicts.TheInside.{Inside}
 use Rattle.ht_verdicts.specs.Standing.{AllDecide, VerdictsView}
 
 -- the fields as they are seen
-abbrev pub standing_of : Inside → VerdictsView
-standing_of a = record {
+abbrev pub verdicts_view : Inside → VerdictsView
+verdicts_view a = record {
   circuit = a.circuit.now;
   representatives = a.classes.now;
   start = a.start.now;
@@ -22,4 +22,4 @@ pub record AreVerdicts (a : Inside) : Type 0 where
   pub same : a.grader.representatives ≡ a.classes.now
   pub each : length a.entries.items ≡ length a.classes.now
   pub latches : IsStart a.circuit.now a.start.now
-  pub decide : AllDecide (standing_of a)
+  pub decide : AllDecide (verdicts_view a)

@@ -1,7 +1,7 @@
 use Rattle.std.proofs.Common.{◌≡◌, ◌<◌, ◌∙◌, Some, length, ap, arith, subst, sym}
 use Rattle.std.proofs.lemmas.List.{length-set}
 use Rattle.ht_verdicts.specs.Standing.{Decides, VerdictsView}
-use Rattle.ht_verdicts.specs.StandingOf.{standing_of}
+use Rattle.ht_verdicts.specs.StandingOf.{verdicts_view}
 use Rattle.ht_verdicts.proofs.DecideLaws.{one_more_decides}
 use Rattle.ht_verdicts.proofs.verdicts.Verdicts.enter.Goals as goal
 
@@ -24,5 +24,5 @@ invariant_of-self c =
       same = before.same;
       each = length-set entries fault (Some made) ∙ before.each;
       latches = before.latches;
-      decide = one_more_decides (standing_of c.self.inside) fault made room decides before.decide;
+      decide = one_more_decides (verdicts_view c.self.inside) fault made room decides before.decide;
     }
