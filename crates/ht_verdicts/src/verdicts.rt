@@ -6,7 +6,8 @@ ghost use Rattle.ht_faults.specs.Sites.{faults_of};
 ghost use Rattle.ht_faults.specs.Classes.{AreClasses};
 ghost use Rattle.ht_proofs.specs.Detections.{place_at};
 ghost use Rattle.ht_proofs.specs.ClassGraderView.{ClassGraderStandsFor};
-ghost use Rattle.ht_valid.specs.ValidFiles.{IsOwn, said_by_kind};
+ghost use Rattle.ht_valid.specs.ValidFiles.{Content, IsJustified, IsOwn, said_by_kind};
+ghost use Rattle.ht_verdicts.specs.Contents.{IsContentOf};
 ghost use Rattle.ht_verdicts.specs.Standing.{AreNone, Decides, HasNoVerdict, entry_at, said_by_entry};
 
 use ht_faults::{Classes, FaultList};
@@ -164,5 +165,14 @@ impl<'c> Verdicts<'c> {
                 None => Said::Undetected,
             },
         }
+    }
+
+    /// A law: what files say is justified where they say what the verdicts do.
+    pub fn are_justified(&self)
+        ensures { (content : Content) → IsContentOf self.now content
+            → IsJustified self.now.circuit self.now.representatives content }
+    {
+        // for the proof: each entry that is kept decides its fault
+        let _ = &self.entries;
     }
 }
