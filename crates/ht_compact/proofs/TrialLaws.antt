@@ -11,14 +11,14 @@ use Rattle.ht_compact.specs.declared.trial.Places.{Places}
 use Rattle.ht_compact.specs.Kept.{without_run}
 use Rattle.ht_compact.specs.Compacts.{IsDetectedBy}
 use Rattle.ht_compact.specs.DetectedFaults.{AreDetectedAt, IsDetectedFault, IsMissed}
-use Rattle.ht_compact.specs.Trials.{AreClosed, AreDetectedIfClosed, is_open}
+use Rattle.ht_compact.specs.Trials.{AreClosed, AreDetectedIfClosed, is_still_open}
 use Rattle.ht_compact.proofs.FrontLaws.{detected_before_run}
 
 -- before the first stage: what is detected before the run that is left out stays detected
 pub first_places : (c : Netlist) (wanted : List ℕ) (list other : List (List Bool)) (at : List ℕ) (from to : ℕ)
     (places : Places) → from ≤ length list → AreDetectedAt c list wanted at → other ≡ without_run list from to
     → places.at.items ≡ at → length places.marks.items ≡ length at
-    → ((k : ℕ) → k < length at → is_open places k ≡ false → get_or at k 0 < from)
+    → ((k : ℕ) → k < length at → is_still_open places k ≡ false → get_or at k 0 < from)
     → AreDetectedIfClosed c wanted other places
 first_places c wanted list other at from to places inside are is same count closed = record {
   vectors = ap (λ (l : List ℕ). length l) same ∙ are.every;
@@ -50,7 +50,7 @@ one_closed c wanted list k v old new so_far inside here at_is open_is =
             (subst (At k) (sym (ap (λ (l : List ℕ). get_or l k 0) at_is
             ∙ get_or-set_same at k v 0 (omega (arith, inside, so_far.vectors)))) here)
         | inr other ↦
-            let stays : is_open new j ≡ is_open old j =
+            let stays : is_still_open new j ≡ is_still_open old j =
             ap (λ (l : List Bool). get_or l j false) open_is ∙ get_or-set_other marks k j false false other in
             subst (At j) (sym (ap (λ (l : List ℕ). get_or l j 0) at_is ∙ get_or-set_other at k j v 0 other))
             (so_far.closed j less (sym stays ∙ mark))
@@ -80,16 +80,16 @@ none_opened marks after k j is closed = elim (cases_eq j k) [
 -- after the last stage no fault is open
 pub all_closed : (c : Netlist) (wanted : List ℕ) (list : List (List Bool)) (which : List ℕ) (old new : Places)
     → AreDetectedIfClosed c wanted list new → AreClosed which old new
-    → ((k : ℕ) → is_open old k ≡ true → Contains which k) → AreDetectedAt c list wanted new.at.items
+    → ((k : ℕ) → is_still_open old k ≡ true → Contains which k) → AreDetectedAt c list wanted new.at.items
 all_closed c wanted list which old new so_far closed named = record {
   every = so_far.vectors;
   each = λ k less.
-      let cases : (b : Bool) → is_open old k ≡ b → is_open new k ≡ false =
-      λ b. elim b as (λ (v : Bool). is_open old k ≡ v → is_open new k ≡ false) [
+      let cases : (b : Bool) → is_still_open old k ≡ b → is_still_open new k ≡ false =
+      λ b. elim b as (λ (v : Bool). is_still_open old k ≡ v → is_still_open new k ≡ false) [
         | true ↦ λ is. closed.named k (named k is)
         | false ↦ λ is. closed.kept k is
       ] in
-      so_far.closed k less (cases (is_open old k) refl);
+      so_far.closed k less (cases (is_still_open old k) refl);
 }
 
 -- ---- the faults of a stage, by their numbers

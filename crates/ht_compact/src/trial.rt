@@ -1,11 +1,11 @@
 //! A trial: whether a list without a run of vectors detects each wanted fault.
-ghost use Rattle.std.specs.Prelude.{◌≡◌, ◌≤◌, ◌<◌, ◌^◌, ℕ, true, false, length, get_or, IfOk};
+ghost use Rattle.std.specs.Prelude.{◌≡◌, ◌≤◌, ◌<◌, ◌^◌, ℕ, true, false, length, slice_index, IfOk, MatchOption};
 ghost use Rattle.std.specs.List.{All, Contains};
 ghost use Rattle.ht_faults.specs.Sites.{faults_of};
 ghost use Rattle.ht_compact.specs.Kept.{without_run};
-ghost use Rattle.ht_compact.specs.DetectedFaults.{IsDetectedFault, RunGives};
-ghost use Rattle.ht_compact.specs.GradedLists.{IsGraded};
-ghost use Rattle.ht_compact.specs.Trials.{AreClosed, AreDetectedIfClosed, StageGives, is_open};
+ghost use Rattle.ht_compact.specs.DetectedFaults.{IsDetectedFault, IsMissed, RunGives};
+ghost use Rattle.ht_compact.specs.GradedLists.{AreGradedVectors};
+ghost use Rattle.ht_compact.specs.Trials.{AreClosed, AreDetectedIfClosed, is_marked, is_still_open};
 
 use crate::detected::{Run, detections};
 use crate::graded::GradedVectors;
@@ -30,7 +30,7 @@ fn places_at_first(alloc: Global, at: &[u64], from: u64) -> Result<Places, Alloc
     ensures at { IfOk result (λ places. places.at.items ≡ at.now) }
     ensures count { IfOk result (λ places. length places.marks.items ≡ length at.now) }
     ensures closed { IfOk result (λ places. (k : ℕ) → k < length at.now
-        → is_open places k ≡ false → get_or at.now k 0 < from) }
+        → is_still_open places k ≡ false → slice_index at.now k < from) }
 {
     let mut marks = Vec::new(alloc);
     for vector in at {
@@ -44,12 +44,12 @@ fn places_at_first(alloc: Global, at: &[u64], from: u64) -> Result<Places, Alloc
 fn open_faults(alloc: Global, marks: &[bool]) -> Result<Vec<usize>, AllocError>
     ensures known { IfOk result (λ which. All (λ k. k < length marks.now) which.items) }
     ensures few { IfOk result (λ which. length which.items ≤ length marks.now) }
-    ensures each { IfOk result (λ which. (k : ℕ) → get_or marks.now k false ≡ true
+    ensures each { IfOk result (λ which. (k : ℕ) → is_marked marks.now k ≡ true
         → Contains which.items k) }
 {
     let mut which = Vec::new(alloc);
-    for (k, is_open) in marks.iter().enumerate() {
-        if *is_open {
+    for (k, mark) in marks.iter().enumerate() {
+        if *mark {
             which.push(k)?;
         }
     }
@@ -65,6 +65,27 @@ fn push_hard(hard: &mut Vec<usize>, marks: &[bool], k: usize) -> Result<(), Allo
 {
     if hard.len() < MAX_HARD && k < marks.len() && marks[k] && !hard.contains(&k) {
         hard.push(k)?;
+    }
+    Ok(())
+}
+
+// Adds the faults that the vectors from `from` on before `to` detect.
+fn push_detected(
+    hard: &mut Vec<usize>,
+    marks: &[bool],
+    at: &[u64],
+    from: u64,
+    to: u64,
+) -> Result<(), AllocError>
+    requires known { All (λ i. i < length marks.now) hard.old.items }
+    requires few { length hard.old.items ≤ MAX_HARD }
+    ensures known { All (λ i. i < length marks.now) hard.new.items }
+    ensures few { length hard.new.items ≤ MAX_HARD }
+{
+    for (k, vector) in at.iter().enumerate() {
+        if *vector >= from && *vector < to {
+            push_hard(hard, marks, k)?;
+        }
     }
     Ok(())
 }
@@ -86,11 +107,7 @@ fn hard_faults(
     'recent: for k in recent.places().iter().rev() {
         push_hard(&mut hard, marks, *k)?;
     }
-    'at: for (k, vector) in graded.at.iter().enumerate() {
-        if *vector >= from && *vector < to {
-            push_hard(&mut hard, marks, k)?;
-        }
-    }
+    push_detected(&mut hard, marks, &graded.at, from, to)?;
     Ok(hard)
 }
 
@@ -99,7 +116,7 @@ fn faults_at(alloc: Global, wanted: &[u32], which: &[usize]) -> Result<Vec<u32>,
     requires { All (λ k. k < length wanted.now) which.now }
     ensures count { IfOk result (λ faults. length faults.items ≡ length which.now) }
     ensures each { IfOk result (λ faults. (i : ℕ) → i < length which.now
-        → get_or faults.items i 0 ≡ get_or wanted.now (get_or which.now i 0) 0) }
+        → slice_index faults.items i ≡ slice_index wanted.now (slice_index which.now i)) }
 {
     let mut faults = Vec::new(alloc);
     for k in which {
@@ -120,8 +137,8 @@ fn close(
     requires found { length found.now ≡ length which.now }
     requires detected { (i : ℕ) → i < length which.now → IsDetectedFault circuit.now list.now.list
         (record {
-          fault = get_or wanted.now (get_or which.now i 0) 0;
-          vector = get_or found.now i 0;
+          fault = slice_index wanted.now (slice_index which.now i);
+          vector = slice_index found.now i;
         }) }
     requires known { All (λ k. k < length wanted.now) which.now }
     requires places { AreDetectedIfClosed circuit.now wanted.now list.now.list places.old }
@@ -154,8 +171,10 @@ fn try_faults(
     requires known { All (λ k. k < length wanted.now) which.now }
     requires few { length which.now < 2 ^ 32 }
     requires places { AreDetectedIfClosed circuit.now wanted.now list.now.list places.old }
-    ensures { IfOk result (StageGives circuit.now wanted.now list.now.list which.now places.old
-        places.new) }
+    ensures { IfOk result (λ lost. MatchOption lost
+        (AreDetectedIfClosed circuit.now wanted.now list.now.list places.new
+        × AreClosed which.now places.old places.new)
+        (IsMissed circuit.now wanted.now list.now.list)) }
 {
     let chosen = faults_at(alloc, wanted, which)?;
     match detections(alloc, circuit, faults, &chosen, list)? {
@@ -185,7 +204,7 @@ pub fn detections_without(
     list: &Vectors,
 ) -> Result<Run, AllocError>
     requires faults { faults.now ≡ faults_of circuit.now }
-    requires graded { IsGraded circuit.now graded.now }
+    requires graded { AreGradedVectors circuit.now graded.now }
     requires list { list.now ≡ record {
       width = circuit.now.inputs;
       list = without_run graded.now.vectors.list from to;

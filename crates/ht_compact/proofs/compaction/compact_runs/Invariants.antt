@@ -1,12 +1,12 @@
 use Rattle.std.proofs.Common.{◌≡◌, length}
 use Rattle.ht_compact.specs.Rounds.{rounds_of}
 use Rattle.ht_compact.specs.Compacts.{serves}
-use Rattle.ht_compact.specs.GradedLists.{IsGraded}
+use Rattle.ht_compact.specs.GradedLists.{AreGradedVectors}
 use Rattle.ht_compact.proofs.compaction.compact_runs.Given as goal
 
 abbrev pub invariant-loop-recent : goal.invariant-loop-recent
 invariant-loop-recent l = record {
-  graded : IsGraded l.circuit l.kept;
+  graded : AreGradedVectors l.circuit l.kept;
   wanted : l.kept.wanted.items ≡ l.initial.kept.wanted.items;
   rounds : rounds_of (serves l.circuit l.initial.kept.wanted.items) l.most l.initial.kept.vectors.list
       ≡ rounds_of (serves l.circuit l.initial.kept.wanted.items) l.most l.kept.vectors.list;

@@ -8,9 +8,3 @@ invariant-recent l = record {
   known : All (λ k. k < length l.marks) l.hard.items;
   few : length l.hard.items ≤ MAX_HARD;
 }
-
-abbrev pub invariant-at : goal.invariant-at
-invariant-at l = record {
-  known : All (λ k. k < length l.marks) l.hard.items;
-  few : length l.hard.items ≤ MAX_HARD;
-}
