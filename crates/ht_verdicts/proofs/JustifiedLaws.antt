@@ -64,7 +64,8 @@ pub justified : (v : VerdictsView) (content : Content) → v.grader.machines.cir
     → IsJustified v.circuit v.representatives content
 justified v content circuit same decide files = record {
   agrees = agrees;
-  backed = All-weaker (IsKeptEntry v) (IsBacking v.circuit v.representatives content) backing content.entries files.kept;
+  backed = All-weaker (IsKeptEntry v) (IsBacking v.circuit v.representatives content) backing content.entries
+      files.kept;
   complete = λ i own needs. needed_by (HasEntry content.entries i) (place_at v.grader.places i) (entry_at v i)
       (λ none made is. files.each i made none is) (subst NeedsEntry (files.says i own) needs);
 }
