@@ -7,18 +7,20 @@
 //! wrong verdict.
 //!
 //! `steps` writes the steps of a refutation by the log of a solver that has the checker's clauses in the checker's
-//! order, and drops cubes that the steps don't cite. `judge` asks the judges, `short` looks at the lines. `Pool`
-//! keeps the cubes of faults that were refuted, which often refute later ones.
+//! order, and drops cubes that the steps don't cite. `judge` asks the judges, `short` looks at the lines. `Shared` is
+//! what the faults of one circuit have in common: costs, and the cubes of faults that were refuted, which often refute
+//! later ones.
 #![tactic(auto)]
 
 mod closed;
 mod judge;
 mod pool;
 mod search;
+mod shared;
 mod short;
 mod steps;
 
 pub use closed::Closed;
-pub use pool::Pool;
 pub use search::close;
+pub use shared::Shared;
 pub use short::are_short;

@@ -43,13 +43,14 @@ impl Pool {
         Ok(())
     }
 
-    /// The cubes by the variables of a fault's rails.
+    /// The newest cubes, so many at most, by the variables of a fault's rails.
     ///
     /// # Errors
     /// Out of memory.
-    pub fn candidates(&self, rails: &Rails<'_>) -> Result<Vec<Candidate>, AllocError> {
-        let mut candidates = Vec::with_capacity(self.alloc, self.cubes.len())?;
-        for cube in &self.cubes {
+    pub fn candidates(&self, rails: &Rails<'_>, most: usize) -> Result<Vec<Candidate>, AllocError> {
+        let mut candidates = Vec::new(self.alloc);
+        let older = self.cubes.len().saturating_sub(most);
+        for cube in self.cubes.iter().skip(older) {
             candidates.push(candidate(self.alloc, rails, cube.as_slice())?)?;
         }
         Ok(candidates)

@@ -1,16 +1,17 @@
 //! The search, and what becomes of what it finds.
 ghost use Rattle.std.specs.Prelude.{◌≡◌, IfOk};
 ghost use Rattle.ht_net.specs.Detect.Detection.{IsStart};
+ghost use Rattle.ht_solver.specs.Efforts.{IsNoMore};
 ghost use Rattle.ht_close.specs.ClosedFaults.{ClosedHolds};
 
 use crate::closed::Closed;
 use crate::judge::{judge_cubes, judge_list};
-use crate::pool::Pool;
+use crate::shared::Shared;
 use crate::steps::{Refutation, write_refutation};
 use ht_cubes::{Cube, Rail, Rails};
 use ht_items::Items;
 use ht_net::{Circuit, Fault, unknown_start};
-use ht_rails::{Costs, LatchRails, problem_of};
+use ht_rails::{LatchRails, problem_of};
 use ht_reach::{Cube as Forbidden, Problem, Reached, decide_reachability};
 use ht_solver::Effort;
 use ht_tern::Tern;
@@ -54,49 +55,53 @@ fn entry_cubes(
     Ok(cubes)
 }
 
-// What is left once a search may spend so much: conflicts and propagations each.
-fn effort(budget: u64) -> Effort {
-    Effort {
-        conflicts: budget,
-        propagations: budget,
-    }
-}
-
 // The steps of the cubes that a search found.
 fn found_cubes(
     alloc: Global,
     rails: &Rails<'_>,
     problem: &Problem,
     cubes: Vec<Cube>,
-    budget: u64,
-) -> Result<Found, AllocError> {
-    let mut left = effort(budget);
-    match write_refutation(alloc, rails, problem, cubes, &mut left)? {
+    left: &mut Effort,
+) -> Result<Found, AllocError>
+    ensures { IsNoMore left.new left.old }
+{
+    match write_refutation(alloc, rails, problem, cubes, left)? {
         Some(refutation) => Ok(Found::Refuted(refutation)),
         None => Ok(Found::Nothing),
     }
 }
 
-// Searches from a start. The steps of a refutation may spend as much again.
+// A cube of an earlier fault is tried for each so many propagations that are left: with a small effort the search needs
+// most of it for itself.
+const PROPAGATIONS_A_CANDIDATE: u64 = 1000;
+
+// How many cubes of earlier faults are tried.
+fn most_candidates(left: Effort) -> usize {
+    let most = left.propagations / PROPAGATIONS_A_CANDIDATE;
+    usize::try_from(most).unwrap_or(usize::MAX)
+}
+
+// Searches from a start.
 fn find(
     alloc: Global,
     circuit: &Circuit,
     fault: Fault,
     start: &[Tern],
-    pool: &Pool,
-    budget: u64,
-) -> Result<Found, AllocError> {
+    shared: &Shared,
+    left: &mut Effort,
+) -> Result<Found, AllocError>
+    ensures { IsNoMore left.new left.old }
+{
     let rails = Rails::new(alloc, circuit, fault)?;
     let latches = LatchRails::new(alloc, &rails)?;
-    let costs = Costs::new(alloc, circuit)?;
-    let problem = problem_of(alloc, &rails, &latches, &costs, start)?;
-    let candidates = pool.candidates(&rails)?;
-    match decide_reachability(alloc, &problem, &candidates, &mut effort(budget))? {
+    let problem = problem_of(alloc, &rails, &latches, &shared.costs, start)?;
+    let candidates = shared.pool.candidates(&rails, most_candidates(*left))?;
+    match decide_reachability(alloc, &problem, &candidates, left)? {
         Reached::GivenUp => Ok(Found::Nothing),
         Reached::Detected(vectors) => Ok(Found::Detected(vectors)),
         Reached::Refuted(forbidden) => {
             let cubes = entry_cubes(alloc, &latches, &forbidden)?;
-            found_cubes(alloc, &rails, &problem, cubes, budget)
+            found_cubes(alloc, &rails, &problem, cubes, left)
         }
     }
 }
@@ -112,13 +117,14 @@ fn find_list(
     circuit: &Circuit,
     fault: Fault,
     start: &[Tern],
-    pool: &Pool,
-    budget: u64,
+    shared: &Shared,
+    left: &mut Effort,
 ) -> Result<Closed, AllocError>
-    ensures { IfOk result (ClosedHolds circuit.now fault start.now) }
+    ensures holds { IfOk result (ClosedHolds circuit.now fault start.now) }
+    ensures spent { IsNoMore left.new left.old }
 {
     let unknown = unknown_start(alloc, circuit)?;
-    match find(alloc, circuit, fault, &unknown, pool, budget)? {
+    match find(alloc, circuit, fault, &unknown, shared, left)? {
         Found::Detected(vectors) => judge_list(alloc, circuit, fault, start, &vectors),
         _ => Ok(Closed::Open),
     }
@@ -131,20 +137,21 @@ fn decide(
     circuit: &Circuit,
     fault: Fault,
     start: &[Tern],
-    pool: &Pool,
-    budget: u64,
+    shared: &Shared,
+    left: &mut Effort,
 ) -> Result<Closed, AllocError>
     requires { IsStart circuit.now start.now }
-    ensures { IfOk result (ClosedHolds circuit.now fault start.now) }
+    ensures holds { IfOk result (ClosedHolds circuit.now fault start.now) }
+    ensures spent { IsNoMore left.new left.old }
 {
-    match find(alloc, circuit, fault, start, pool, budget)? {
+    match find(alloc, circuit, fault, start, shared, left)? {
         Found::Nothing => Ok(Closed::Open),
         Found::Refuted(refutation) => judge_cubes(alloc, circuit, fault, start, refutation),
         Found::Detected(vectors) => {
             let closed = judge_list(alloc, circuit, fault, start, &vectors)?;
             match closed {
                 Closed::Open if is_stated(start) => {
-                    find_list(alloc, circuit, fault, start, pool, budget)
+                    find_list(alloc, circuit, fault, start, shared, left)
                 }
                 _ => Ok(closed),
             }
@@ -153,8 +160,8 @@ fn decide(
 }
 
 /// Closes a fault, if it can: cubes and steps that refute it from the start, or a list that detects it from
-/// all-unknown, each judged before it is said. The budget is a number of propagations, and as many conflicts, of each
-/// search and of the steps. The cubes of a refutation join the pool.
+/// all-unknown, each judged before it is said. Searches and steps spend no more than what is left, and take it from
+/// that; what they build, and the judging, isn't counted. The cubes of a refutation join the pool.
 ///
 /// # Errors
 /// Out of memory, or 2^32 or more that stands in clauses.
@@ -163,15 +170,16 @@ pub fn close(
     circuit: &Circuit,
     fault: Fault,
     start: &[Tern],
-    pool: &mut Pool,
-    budget: u64,
+    shared: &mut Shared,
+    left: &mut Effort,
 ) -> Result<Closed, AllocError>
     requires { IsStart circuit.now start.now }
-    ensures { IfOk result (ClosedHolds circuit.now fault start.now) }
+    ensures holds { IfOk result (ClosedHolds circuit.now fault start.now) }
+    ensures spent { IsNoMore left.new left.old }
 {
-    let closed = decide(alloc, circuit, fault, start, pool, budget)?;
+    let closed = decide(alloc, circuit, fault, start, shared, left)?;
     if let Closed::Refuted { cubes, .. } = &closed {
-        pool.add(cubes.as_slice())?;
+        shared.pool.add(cubes.as_slice())?;
     }
     Ok(closed)
 }

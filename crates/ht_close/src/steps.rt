@@ -1,4 +1,6 @@
 //! The steps of a refutation, written by the log of a solver.
+ghost use Rattle.ht_solver.specs.Efforts.{IsNoMore};
+
 use ht_cubes::{ClauseStep, Cube, Formula, Rails, SignedVar};
 use ht_items::Items;
 use ht_rails::literals_of;
@@ -96,7 +98,9 @@ fn refuting_lemmas(
     costs: &[u32],
     formula: &Formula,
     left: &mut Effort,
-) -> Result<Option<Vec<Lemma>>, AllocError> {
+) -> Result<Option<Vec<Lemma>>, AllocError>
+    ensures { IsNoMore left.new left.old }
+{
     let mut solver = solver_of(alloc, costs, formula)?;
     add_formula(alloc, &mut solver, formula)?;
     let answer = solver.solve(&[], *left)?;
@@ -117,7 +121,9 @@ fn write_once(
     problem: &Problem,
     cubes: &[Cube],
     left: &mut Effort,
-) -> Result<Option<Written>, AllocError> {
+) -> Result<Option<Written>, AllocError>
+    ensures { IsNoMore left.new left.old }
+{
     let Some(formula) = rails.formula(alloc, cubes)? else {
         return Ok(None);
     };
@@ -157,7 +163,9 @@ pub fn write_refutation(
     problem: &Problem,
     cubes: Vec<Cube>,
     left: &mut Effort,
-) -> Result<Option<Refutation>, AllocError> {
+) -> Result<Option<Refutation>, AllocError>
+    ensures { IsNoMore left.new left.old }
+{
     let mut cubes = cubes;
     let mut found = None;
     for _ in 0..MAX_ROUNDS {
