@@ -6,6 +6,7 @@
 //! generator adds to a file is written before the next step begins. A netlist is read in normal text. It and the tests
 //! of `sim` have to be ones that `ht_cli` accepts: they aren't judged here.
 mod breed;
+mod causes;
 mod circuit;
 mod clauses;
 mod families;
@@ -29,6 +30,7 @@ mod words;
 mod work;
 
 use breed::Breeder;
+use causes::Watcher;
 use circuit::{Circuit, Order};
 use families::Families;
 use faults::FaultList;
@@ -47,7 +49,7 @@ use work::{Entry, Work, Worker};
 const USAGE: &str = "usage: sim NETLIST TESTS REPORT, gen NETLIST TESTS REPORT PROOFS BUDGET RANDOM SEED, \
                      check NETLIST TESTS REPORT PROOFS, uninit NETLIST OUT BUDGET, \
                      sync NETLIST TESTS OUT BUDGET, close NETLIST, \
-                     respond NETLIST TESTS OUT FAULT, breed NETLIST TESTS OUT VECTORS SEED";
+                     respond NETLIST TESTS OUT FAULT, causes NETLIST TESTS OUT, breed NETLIST TESTS OUT VECTORS SEED";
 
 /// The circuit of a netlist. `PLAIN_ORDER` says in which order its gates have their places: `lines`, `level` or `kind`.
 fn read_circuit(name: &str) -> Result<Circuit, Box<dyn Error>> {
@@ -89,6 +91,19 @@ fn sim(netlist: &str, tests: &str, report: &str) -> Result<(), Box<dyn Error>> {
     let said: Vec<Said> = grader.verdicts.iter().map(|verdict| said_of(*verdict, Said::Undetected)).collect();
     texts::write_report(&circuit, &list, &said, None, &mut BufWriter::new(File::create(report)?))?;
     eprintln!("gate evaluations {}", grader.group.evaluations);
+    Ok(())
+}
+
+/// Why the vectors don't detect faults.
+fn causes(netlist: &str, tests: &str, report: &str) -> Result<(), Box<dyn Error>> {
+    let circuit = read_circuit(netlist)?;
+    let vectors = judge::read_tests(&circuit, &fs::read(tests)?)?;
+    let list = FaultList::of(&circuit);
+    let mut watcher = Watcher::new(&circuit, list.own().into_iter().map(|i| list.faults[i as usize]).collect());
+    for bits in &vectors {
+        watcher.apply(bits);
+    }
+    causes::write_report(&circuit, &list, &watcher.seen, &mut BufWriter::new(File::create(report)?))?;
     Ok(())
 }
 
@@ -265,6 +280,7 @@ fn run(words: &[&str]) -> Result<i32, Box<dyn Error>> {
                 Ok(1)
             }
         },
+        ["causes", netlist, tests, report] => causes(netlist, tests, report).map(|()| 0),
         ["uninit", netlist, out, budget] => uninit(netlist, out, budget.parse()?).map(|()| 0),
         ["sync", netlist, tests, out, budget] => synchronize(netlist, tests, out, budget.parse()?).map(|()| 0),
         ["respond", netlist, tests, out, number] => respond(netlist, tests, out, number.parse()?).map(|()| 0),

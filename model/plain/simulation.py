@@ -17,8 +17,8 @@ def gate_value(kind, args):
     return 1 - value if kind in netlists.INVERTING and value != X else value
 
 
-def frame_of(circuit, vector, state, site=None, stuck=None):
-    """What the outputs show at a vector from a state, and the next state, with a line stuck or with none."""
+def values_of(circuit, vector, state, site=None, stuck=None):
+    """What each net has at a vector from a state, with a line stuck or with none."""
     values = dict(zip(circuit.inputs, vector))
     values.update((net, latch) for (net, _), latch in zip(circuit.flip_flops, state))
     if site and site[0] == "stem" and site[1] in values:
@@ -27,6 +27,12 @@ def frame_of(circuit, vector, state, site=None, stuck=None):
         kind, net, args = circuit.gates[g]
         pins = [stuck if site == ("pin", g, i) else values[arg] for i, arg in enumerate(args)]
         values[net] = stuck if site == ("stem", net) else gate_value(kind, pins)
+    return values
+
+
+def frame_of(circuit, vector, state, site=None, stuck=None):
+    """What the outputs show at a vector from a state, and the next state, with a line stuck or with none."""
+    values = values_of(circuit, vector, state, site, stuck)
     state = [stuck if site == ("data pin", j) else values[pin] for j, (_, pin) in enumerate(circuit.flip_flops)]
     return [values[net] for net in circuit.outputs], state
 

@@ -73,7 +73,8 @@ const PANELS = {
         cell(it.given, "where"), cell(it.words, "said"), element("td", { "aria-label": it.holds === undefined ? "" : it.holds ? "borne out" : "not borne out" }, it.holds === undefined ? "" : it.holds ? "✓" : "✗")];
       return it.sets ? pickRow(now.stepAt === at, () => pickStep(at), ...cells) : element("tr", {}, ...cells);
     });
-    return [element("p", { class: "note" }, "Not checked here: a tick says that this page's own sets bear a row out, and ht check decides."), element("h3", {}, made.title),
+    const judged = now.checked ? `check says: ${now.checked}.` : "Not checked here: ht check decides.";
+    return [element("p", { class: "note" }, `${judged} A tick says that this page's own sets bear a row out.`), element("h3", {}, made.title),
       element("p", { class: "note" }, `Entry of fault ${own.number}, ${own.site} s-a-${own.stuck}` + (now.fault.as ? `, to whose class fault ${now.fault.number} belongs` : "") + "."),
       ...made.words.map(words => element("p", {}, words)), element("p", { class: "note" }, "Choose a row to see at each line the pairs that it may carry."),
       tableOf(["Proofs", "Where", "What it says", ""], steps),

@@ -22,7 +22,8 @@ function load(files) {
   const vectors = readTests(circuit, files.tests || ""), said = files.report ? readReport(files.report) : null;
   for (const name of FILES) now[name] = files[name] || "";
   Object.assign(now, { circuit, from: start, vectors, said, entries: readProofs(now.proofs), good: runMachine(circuit, vectors, null, start) });
-  Object.assign(now, { at: 0, fault: null, site: null, faulty: null, step: null, stepAt: null, made: null, drawn: null, filter: "all" });
+  Object.assign(now, { at: 0, fault: null, site: null, faulty: null, step: null, stepAt: null, made: null, drawn: null, filter: "all", checked: "" });
+  showTyped();
   const gates = circuit.gates.length;
   $("lines").value = gates > ALL_UP_TO ? "effect" : "all";
   for (const value of ["all", "faint"]) $("lines").querySelector(`[value=${value}]`).disabled = gates > MOST_DRAWN;

@@ -1,0 +1,5 @@
+pub mod Firsts
+pub mod Compared
+pub mod Causes
+pub mod Kept
+pub mod CauseTexts
