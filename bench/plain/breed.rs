@@ -13,6 +13,8 @@ const LONGEST: usize = 128;
 const MOST_WORDS: usize = 1 << 21;
 const LEAST_GENERATIONS: usize = 6;
 const MOST_GENERATIONS: usize = 60;
+/// So many vectors make a segment.
+const SEGMENT: usize = 32;
 const MOST_IDLE: usize = 8;
 const MOST_DRY: usize = 20;
 const MOST_HOPES: u16 = 4;
@@ -26,7 +28,7 @@ const HOLDS: [usize; 5] = [1, 1, 2, 4, 8];
 const RATES: [u32; 4] = [0, 2, 8, 24];
 const FLIPS: [u32; 3] = [8, 32, 128];
 
-/// A burst that detected something.
+/// A burst, or a segment of other vectors, that detected something.
 struct Kept {
     rows: Vec<Vec<bool>>,
     gain: usize,
@@ -237,14 +239,25 @@ impl<'c> Breeder<'c> {
         }
     }
 
+    /// Applies vectors that aren't bred. Their segments that detect something are kept.
+    pub fn take_in(&mut self, grader: &mut Grader, vectors: &[Vec<bool>]) {
+        for segment in vectors.chunks(SEGMENT) {
+            let before = grader.live.len();
+            segment.iter().for_each(|vector| self.apply(grader, vector));
+            if grader.live.len() < before {
+                self.kept.keep(segment.to_vec(), before - grader.live.len());
+            }
+        }
+    }
+
     /// Applies a vector, and notes the values that the good machine shows.
-    pub fn apply(&mut self, grader: &mut Grader, vector: &[bool]) {
+    fn apply(&mut self, grader: &mut Grader, vector: &[bool]) {
         grader.apply(vector);
         self.unseen.retain(|(net, value)| grader.group.good[*net as usize] != *value);
     }
 
     /// The score of each lane.
-    fn scores(&self, looked: &[u32], definite: i64) -> Vec<i64> {
+    fn scores(&self, looked: &[u32], frames: usize, definite: i64) -> Vec<i64> {
         let [mut hoped, mut stored, mut new, mut known] = <[Counter; 4]>::default();
         for i in looked {
             let found = self.lanes.found[*i as usize];
@@ -254,7 +267,7 @@ impl<'c> Breeder<'c> {
             }
         }
         let mut shown = vec![0; self.unseen.len()];
-        for t in 0..self.frames {
+        for t in 0..frames {
             let frame = self.lanes.frame(t);
             for (lanes, (net, value)) in shown.iter_mut().zip(&self.unseen) {
                 *lanes |= frame[*net as usize].lanes_of(*value);
@@ -262,22 +275,22 @@ impl<'c> Breeder<'c> {
         }
         shown.into_iter().for_each(|lanes| new.add(lanes));
         for net in &self.circuit.data_pins {
-            let word = self.lanes.frame(self.frames - 1)[*net as usize];
+            let word = self.lanes.frame(frames - 1)[*net as usize];
             known.add(word.zero | word.one);
         }
         (0..LANES).map(|k| 8 * hoped.lane(k) + 2 * stored.lane(k) + 4 * new.lane(k) + 8 * (known.lane(k) - definite)).collect()
     }
 
-    /// The best candidate of all generations from a state of the good machine.
-    fn best(&mut self, state: &[Value], looked: &[u32]) -> Best {
+    /// The best candidate of all generations from a state of the good machine, of so many vectors.
+    fn best(&mut self, state: &[Value], looked: &[u32], frames: usize) -> Best {
         let definite = state.iter().filter(|value| **value != Value::Unknown).count() as i64;
-        let mut candidates = Candidates::fresh(self.circuit.inputs, self.frames, &mut self.words, &self.kept);
+        let mut candidates = Candidates::fresh(self.circuit.inputs, frames, &mut self.words, &self.kept);
         let mut best = Best { score: i64::MIN, rows: Vec::new(), promises: Vec::new() };
         let (mut idle, mut mark) = (0, 0);
         for generation in 1.. {
-            self.lanes.run(state, &candidates.bits, self.frames);
-            self.lanes.trace(self.faults, looked, self.frames);
-            let scores = self.scores(looked, definite);
+            self.lanes.run(state, &candidates.bits, frames);
+            self.lanes.trace(self.faults, looked, frames);
+            let scores = self.scores(looked, frames, definite);
             let mut order: Vec<usize> = (0..LANES).collect();
             order.sort_by_key(|k| (-scores[*k], *k));
             let k = order[0];
@@ -304,8 +317,7 @@ impl<'c> Breeder<'c> {
     /// Breeds a burst of at most `most` vectors, applies it and learns from it. Its vectors.
     pub fn burst(&mut self, grader: &mut Grader, most: usize) -> Vec<Vec<bool>> {
         let looked: Vec<u32> = grader.live.iter().copied().filter(|i| self.false_hopes[*i as usize][0] < MOST_HOPES).collect();
-        let mut best = self.best(&grader.latches.clone(), &looked);
-        best.rows.truncate(most);
+        let best = self.best(&grader.latches.clone(), &looked, self.frames.min(most));
         let before = grader.live.len();
         for vector in &best.rows {
             self.apply(grader, vector);

@@ -25,6 +25,15 @@ pub fn read_tests(circuit: &Circuit, text: &[u8]) -> Result<Vec<Vec<bool>>, Stri
     lines(text).enumerate().map(vector).collect()
 }
 
+/// What each flip-flop holds before the first vector.
+pub fn read_start(text: &[u8]) -> Vec<Value> {
+    let value = |byte: &u8| match byte {
+        b'0' | b'1' => Value::of(*byte == b'1'),
+        _ => Value::Unknown,
+    };
+    lines(text).next().unwrap_or_default().iter().map(value).collect()
+}
+
 /// The budget of a report and what it says of the representatives, or the first line that is wrong.
 pub fn read_report(
     circuit: &Circuit,

@@ -9,6 +9,7 @@ mod breed;
 mod causes;
 mod circuit;
 mod clauses;
+mod compact;
 mod families;
 mod faults;
 mod grading;
@@ -49,7 +50,8 @@ use work::{Entry, Work, Worker};
 const USAGE: &str = "usage: sim NETLIST TESTS REPORT, gen NETLIST TESTS REPORT PROOFS BUDGET RANDOM SEED, \
                      check NETLIST TESTS REPORT PROOFS, uninit NETLIST OUT BUDGET, \
                      sync NETLIST TESTS OUT BUDGET, close NETLIST, \
-                     respond NETLIST TESTS OUT FAULT, causes NETLIST TESTS OUT, breed NETLIST TESTS OUT VECTORS SEED";
+                     respond NETLIST TESTS OUT FAULT, causes NETLIST TESTS OUT, breed NETLIST TESTS OUT VECTORS SEED [START], \
+                     compact NETLIST TESTS OUT RUNS";
 
 /// The circuit of a netlist. `PLAIN_ORDER` says in which order its gates have their places: `lines`, `level` or `kind`.
 fn read_circuit(name: &str) -> Result<Circuit, Box<dyn Error>> {
@@ -235,16 +237,19 @@ fn respond(netlist: &str, tests: &str, out: &str, number: usize) -> Result<(), B
 
 /// The vectors of some tests, and then at most `most` bred ones. `PLAIN_BURSTS` has each burst told on standard error: how
 /// many vectors it has, and how many representatives are detected.
-fn breed(names: [&str; 3], most: usize, seed: u64) -> Result<(), Box<dyn Error>> {
+fn breed(names: [&str; 3], start: Option<&str>, most: usize, seed: u64) -> Result<(), Box<dyn Error>> {
     let circuit = read_circuit(names[0])?;
     let given = judge::read_tests(&circuit, &fs::read(names[1])?)?;
     let list = FaultList::of(&circuit);
     let own: Vec<_> = list.own().into_iter().map(|i| list.faults[i as usize]).collect();
     let mut grader = Grader::new(&circuit, own.clone());
+    if let Some(name) = start {
+        grader.latches = judge::read_start(&fs::read(name)?);
+    }
     let mut breeder = Breeder::new(&circuit, &own, seed);
     let mut text = BufWriter::new(File::create(names[2])?);
+    breeder.take_in(&mut grader, &given);
     for vector in &given {
-        breeder.apply(&mut grader, vector);
         writeln!(text, "{}", texts::bits(vector))?;
     }
     let mut bred = 0;
@@ -260,6 +265,19 @@ fn breed(names: [&str; 3], most: usize, seed: u64) -> Result<(), Box<dyn Error>>
     }
     text.flush()?;
     println!("vectors {} bred {bred} detected {} of {}", given.len(), own.len() - grader.live.len(), own.len());
+    Ok(())
+}
+
+/// The vectors of some tests that are kept where runs of at most so many are left out.
+fn compact(names: [&str; 3], most: usize) -> Result<(), Box<dyn Error>> {
+    let circuit = read_circuit(names[0])?;
+    let vectors = judge::read_tests(&circuit, &fs::read(names[1])?)?;
+    let list = FaultList::of(&circuit);
+    let own: Vec<_> = list.own().into_iter().map(|i| list.faults[i as usize]).collect();
+    let kept = compact::compact(&circuit, &own, &vectors, most);
+    let text: String = kept.iter().map(|vector| texts::bits(vector) + "\n").collect();
+    fs::write(names[2], text)?;
+    println!("vectors {} kept {}", vectors.len(), kept.len());
     Ok(())
 }
 
@@ -284,7 +302,10 @@ fn run(words: &[&str]) -> Result<i32, Box<dyn Error>> {
         ["uninit", netlist, out, budget] => uninit(netlist, out, budget.parse()?).map(|()| 0),
         ["sync", netlist, tests, out, budget] => synchronize(netlist, tests, out, budget.parse()?).map(|()| 0),
         ["respond", netlist, tests, out, number] => respond(netlist, tests, out, number.parse()?).map(|()| 0),
-        ["breed", netlist, tests, out, most, seed] => breed([netlist, tests, out], most.parse()?, seed.parse()?).map(|()| 0),
+        ["breed", netlist, tests, out, most, seed, ref start @ ..] if start.len() < 2 => {
+            breed([netlist, tests, out], start.first().copied(), most.parse()?, seed.parse()?).map(|()| 0)
+        }
+        ["compact", netlist, tests, out, most] => compact([netlist, tests, out], most.parse()?).map(|()| 0),
         ["close", netlist] => close(netlist).map(|()| 0),
         _ => Err(USAGE.into()),
     }

@@ -72,7 +72,8 @@ did_then {xs = xs} {ys = ys} {a = a} x y = record {
 }
 
 -- nothing but counts changed
-pub did_nothing : {a b : DeskView} → b.written ≡ a.written → b.named ≡ a.named → b.is_created ≡ a.is_created → Did [] a b
+pub did_nothing : {a b : DeskView} → b.written ≡ a.written → b.named ≡ a.named → b.is_created ≡ a.is_created
+    → Did [] a b
 did_nothing written named created = record {
   written = λ p. ap (λ f. f p) written;
   named = λ p. ap (λ f. f p) named;
@@ -132,7 +133,8 @@ fault_after {port = port} after fault = record {
 }
 
 -- if acts stop after others were done, all of them together stop
-unfoldable pub stops_then : {xs ys : List Act} {a m b : DeskView} → IsAfter a m → Did xs a m → Stops ys m b → Stops (xs ++ ys) a b
+unfoldable pub stops_then : {xs ys : List Act} {a m b : DeskView} → IsAfter a m → Did xs a m → Stops ys m b
+    → Stops (xs ++ ys) a b
 stops_then {xs = xs} {a = a} {b = b} after did s = record {
   whole = xs ++ s.whole;
   act = s.act;

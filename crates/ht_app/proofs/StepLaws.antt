@@ -169,8 +169,8 @@ never_false : {step : Step} {result : Result Bool RunError} → step ≢ Finishe
 never_false {step = step} other more is =
     false≢true ((IfOk-at_ok (λ (m : Bool). m ≡ true ↔ step ≢ Finished) is more).1 other)
 
--- A step that an engine made, and that was tried to be written, is one step more that is written, but the end. There the
--- steps are all.
+-- A step that an engine made, and that was tried to be written, is one step more that is written, but the end. There
+-- the steps are all.
 pub wrote_made : {steps : List Step} {old new : EngineView} {before : Sizes} (after : Sizes) {a b : DeskView}
     (step : Step) (result : Result Bool RunError) → StandsAt steps old before → HasSameWork old new
     → Makes old new steps step → IfOk result (λ more. more ≡ true ↔ step ≢ Finished)

@@ -71,7 +71,8 @@ file_named {a = a} {m = m} port n h made other =
     (subst (λ (created : Option (List ℕ)). IsOtherFile created (m.named port) n) is other)
 
 -- an act that makes no file leaves the names
-named_kept : {ports : Ports} {before : List Act} {a m : DeskView} (b : DeskView) → HasWritten ports before a m → (act : Act)
+named_kept : {ports : Ports} {before : List Act} {a m : DeskView} (b : DeskView) → HasWritten ports before a m
+    → (act : Act)
     → ((p : OutPort) → makes p act ≡ false) → b.named ≡ m.named → (p : OutPort)
     → IsTrue (list_any (makes p) (before ++ act ∷ [])) → (name : List ℕ) × (ports.creates p ≡ Some name)
     × (b.named p ≡ option_map (λ (_ : List ℕ). name) (a.named p))
@@ -167,7 +168,8 @@ pub tries_then : {A B : Type 0} {xs ys : List Act} {value : A} {result : Result 
 tries_then {xs = xs} {ys = ys} {result = result} {b = b} first second = record {
   ends = λ ports before start h permits.
       subst (λ (l : List Act). EndsWriting ports l result start b) (append_assoc before xs ys)
-      (second.ends ports (before ++ xs) start (first.ends ports before start h (permits_first ports before xs ys permits))
+      (second.ends ports (before ++ xs) start
+      (first.ends ports before start h (permits_first ports before xs ys permits))
       (permits_rest ports before xs ys permits));
 }
 

@@ -31,7 +31,8 @@ act_port (put port text) = port
 
 -- what stands at a port after an act
 abbrev pub written_by : OutPort → Act → Option (List ℕ) → Option (List ℕ)
-written_by p (make port name) written = if is_port p port then option_map (λ _. []) written else written
+written_by p (make port name) written = if is_port p port then option_map (λ _. []) written else
+    written
 written_by p (put port text) written = if is_port p port then append_known written text else written
 
 -- the name of the port's file after an act
@@ -65,7 +66,8 @@ pub record Did (acts : List Act) (old new : DeskView) : Type 0 where
 -- a part of an act, and not all: a file isn't made, or a proper front of the text is put
 abbrev pub IsInPart : Act → List Act → Type 0
 IsInPart (make port name) part = part ≡ []
-IsInPart (put port text) part = (count : ℕ) × (count < length text) × (part ≡ put port (take count text) ∷ [])
+IsInPart (put port text) part = (count : ℕ) × (count < length text)
+    × (part ≡ put port (take count text) ∷ [])
 
 -- a fault of writing was counted at this port, and the desk isn't steady
 pub record IsWriteFault (port : OutPort) (old new : DeskView) : Type 0 where

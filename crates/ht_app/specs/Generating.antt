@@ -34,7 +34,8 @@ pub record StandsAt (steps : List Step) (e : EngineView) (sizes : Sizes) : Type 
   pub short : sizes.tests.bytes ≤ max_text_bytes
 
 -- The engine's next steps are tried to be written; where this holds, they are all.
-pub record WritesOn {A : Type 0} (steps : List Step) (AtEnd : Type 0) (e later : EngineView) (sizes : Sizes)
+pub record WritesOn {A : Type 0} (steps : List Step) (AtEnd : Type 0) (e later : EngineView)
+    (sizes : Sizes)
     (result : Result A RunError) (old new : DeskView) : Type 0 where
   pub more : List Step
   pub are : AreSteps e.circuit e.representatives e.settings (steps ++ more)
@@ -45,7 +46,8 @@ pub record WritesOn {A : Type 0} (steps : List Step) (AtEnd : Type 0) (e later :
 -- ---- the files
 
 -- The files are tried to be made and written. Once all steps are, memory doesn't run out.
-pub record WritesAll (files : RunFiles) (c : net.Netlist) (settings : Settings) (result : Result (Unit {0}) RunError)
+pub record WritesAll (files : RunFiles) (c : net.Netlist) (settings : Settings)
+    (result : Result (Unit {0}) RunError)
     (old new : DeskView) : Type 0 where
   pub acts : List Act
   pub tries : Tries acts result old new

@@ -25,8 +25,9 @@ use Rattle.ht_files.specs.StepTexts.{proofs_of, proofs_so_far, step_text, tests_
 use Rattle.ht_faults.specs.Sites.{faults_of}
 use Rattle.ht_uninit.specs.Records.{IsUninit, UninitHolds, UninitState}
 use Rattle.ht_uninit.specs.UninitTexts.{uninit_text, uninit_total}
-use Rattle.ht_asked.specs.Asked.{Asked, Kind}
-use Rattle.ht_asked.specs.Asked.{sim, gen, check, norm, demo, compact, diagnose, uninit, sync, respond, report}
+use Rattle.ht_asked.specs.Asked.{Asked}
+use Rattle.ht_asked.specs.Table.{Kind}
+use Rattle.ht_asked.specs.Table.{sim, gen, check, norm, demo, compact, diagnose, uninit, sync, respond, report, breed}
 use Rattle.ht_words.specs.Jobs.{made_by}
 use Rattle.ht_app.specs.Changed.{output_name}
 use Rattle.ht_sync.specs.SyncSearches.{FindsWithin, IsSynchronized, SynchronizedHolds}
@@ -43,6 +44,10 @@ use Rattle.ht_proofs.specs.Detections.{AreFirstDetections}
 use Rattle.ht_texts.specs.declared.said.Said.{Said}
 use Rattle.ht_texts.specs.Verdicts.{saids_of}
 use Rattle.ht_texts.specs.Tests.{test_text}
+use Rattle.ht_faults.specs.Classes.{own_representatives}
+use Rattle.ht_bred.specs.Bred.{IsBred}
+use Rattle.ht_bred.specs.BredText.{bred_line}
+use Rattle.ht_bred.specs.declared.bred.Bred.{Bred}
 use Rattle.ht_compact.specs.Compacts.{Compacts}
 use Rattle.ht_compact.specs.CompactionText.{compaction_line}
 use Rattle.ht_tern.specs.declared.tern.Tern.{Tern}
@@ -68,7 +73,8 @@ abbrev pub report_acts : List ℕ → List ℕ → List ℕ → List Act
 report_acts body said last = put Report body ∷ put Out said ∷ put Report last ∷ []
 
 -- A file of this name is written, with its total line, and they are so.
-pub record WritesFile (port : OutPort) (name : List ℕ) (AreSo : List ℕ → List ℕ → Type 0) (acts : List Act)
+pub record WritesFile (port : OutPort) (name : List ℕ) (AreSo : List ℕ → List ℕ → Type 0)
+    (acts : List Act)
     : Type 0 where
   pub body : List ℕ
   pub total : List ℕ
@@ -95,12 +101,14 @@ pub record AreTrue (basis : JobBasis) : Type 0 where
   pub classes : AreClasses basis.circuit basis.representatives
   pub justified : IsJustified basis.circuit basis.representatives basis.content
   pub verdicts : HaveTrueVerdicts basis.circuit basis.representatives basis.content
-  pub decided : AreDecided basis.circuit basis.representatives (IsWorkedOn basis.content) basis.content
+  pub decided : AreDecided basis.circuit basis.representatives (IsWorkedOn basis.content)
+      basis.content
 
 -- ---- `report`
 
 -- The report of a circuit with this budget, which says this of the faults. The total line is its last.
-pub record IsReportOfVerdicts (c : Netlist) (representatives : List ℕ) (budget : ℕ) (saids : List Said)
+pub record IsReportOfVerdicts (c : Netlist) (representatives : List ℕ) (budget : ℕ)
+    (saids : List Said)
     (report total : List ℕ) : Type 0 where
   pub report_is : report ≡ report_text c representatives (Some budget) saids
   pub reported : IsReportText c representatives report budget saids
@@ -127,7 +135,10 @@ settings_of basis job = record {
   weighted = job.numbers.weighted;
   search = search_of job.numbers.deep;
   start = basis.content.start;
-  first = record { width = basis.circuit.inputs; list = where_named job.reads.tests basis.content.list };
+  first = record {
+    width = basis.circuit.inputs;
+    list = where_named job.reads.tests basis.content.list;
+  };
   chosen = option_map (λ _. basis.chosen) job.reads.faults;
 }
 
@@ -142,23 +153,28 @@ step_acts (Entry fault entry) = put Proofs (step_text (Entry fault entry)) ∷ [
 step_acts Finished = []
 
 -- The files are made, the proofs get their head line, and the steps of the generator are put one after the other.
-pub record WritesSteps (files : RunFiles) (c : net.Netlist) (settings : Settings) (acts : List Act) : Type 0 where
+pub record WritesSteps (files : RunFiles) (c : net.Netlist) (settings : Settings)
+    (acts : List Act) : Type 0 where
   pub representatives : List ℕ
   pub steps : List Step
   pub classes : AreClasses c representatives
   pub steps_are : AreSteps c representatives settings steps
-  pub acts_are : acts ≡ creation files ++ put Proofs (proofs_so_far settings []) ∷ flat_map step_acts steps
+  pub acts_are : acts ≡ creation files ++ put Proofs (proofs_so_far settings [])
+      ∷ flat_map step_acts steps
 
 -- All steps, and then the end of the proofs and the report. The three files and the total line are those of a finished
 -- run of the generator.
-pub record WritesFiles (files : RunFiles) (c : net.Netlist) (settings : Settings) (acts : List Act) : Type 0 where
+pub record WritesFiles (files : RunFiles) (c : net.Netlist) (settings : Settings)
+    (acts : List Act) : Type 0 where
   pub first : List Act
   pub begun : WritesSteps files c settings first
   pub body : List ℕ
   pub total : List ℕ
   pub acts_are : acts ≡ first
-      ++ put Proofs (with_lf (line_text End)) ∷ put Report body ∷ put Out total ∷ ending Report total
-  pub generated : IsGenerated c settings (tests_of begun.steps) (body ++ total) (proofs_of settings begun.steps) total
+      ++ put Proofs (with_lf (line_text End)) ∷ put Report body ∷ put Out total
+      ∷ ending Report total
+  pub generated : IsGenerated c settings (tests_of begun.steps) (body ++ total)
+      (proofs_of settings begun.steps) total
 
 -- ---- `demo`
 
@@ -181,21 +197,24 @@ pub record SaysHead (size seed : ℕ) (acts : List Act) : Type 0 where
   pub representatives : List ℕ
   pub classes : AreClasses (demo_netlist size seed) representatives
   pub acts_are :
-      acts ≡ put Out (with_lf (head_line (demo_netlist size seed) representatives (Some DEMO_BUDGET))) ∷ []
+      acts ≡ put Out (with_lf (head_line (demo_netlist size seed) representatives
+      (Some DEMO_BUDGET))) ∷ []
 
 -- And then the total line of what the generator says of it.
 pub record SaysTotals (size seed : ℕ) (acts : List Act) : Type 0 where
   pub first : List Act
   pub total : List ℕ
   pub head : SaysHead size seed first
-  pub total_is : IsTotalOf (demo_netlist size seed) (demo_settings (demo_netlist size seed) seed) total
+  pub total_is : IsTotalOf (demo_netlist size seed) (demo_settings (demo_netlist size seed) seed)
+      total
   pub acts_are : acts ≡ first ++ put Out total ∷ []
 
 -- ---- `sim`
 
 -- The report of a circuit over these vectors from a start, and its total line. A fault that represents its class has
 -- its own verdict, and every other names its representative.
-pub record IsReportOf (c : Netlist) (start : List Tern) (list : List (List Bool)) (report total : List ℕ)
+pub record IsReportOf (c : Netlist) (start : List Tern) (list : List (List Bool))
+    (report total : List ℕ)
     : Type 0 where
   pub representatives : List ℕ
   pub places : List (Option Place)
@@ -208,13 +227,14 @@ pub record IsReportOf (c : Netlist) (start : List Tern) (list : List (List Bool)
 
 -- The text is that of the vectors to which this list is compacted, and the total line says how many vectors there were
 -- and how many are kept.
-pub record IsCompactionOf (c : net.Netlist) (list : List (List Bool)) (text total : List ℕ) : Type 0 where
-  pub representatives : List ℕ
-  pub kept : List (List Bool)
-  pub classes : AreClasses c representatives
-  pub compacted : Compacts c representatives list kept
-  pub text_is : text ≡ test_text kept
-  pub total_is : total ≡ with_lf (compaction_line (length list) (length kept))
+pub record IsCompactionOf (c : net.Netlist) (list : List (List Bool)) (text total : List ℕ) : Type 0
+  where
+    pub representatives : List ℕ
+    pub kept : List (List Bool)
+    pub classes : AreClasses c representatives
+    pub compacted : Compacts c representatives list kept
+    pub text_is : text ≡ test_text kept
+    pub total_is : total ≡ with_lf (compaction_line (length list) (length kept))
 
 -- ---- `diagnose`
 
@@ -246,7 +266,8 @@ pub record IsUninitReport (c : net.Netlist) (budget : ℕ) (report total : List 
 
 -- The tests are the list that the search within the budget finds, or none, and the record says what it found. What such
 -- an answer means holds: the list synchronizes, and no shorter one does. A budget that is enough finds one.
-pub record IsSyncRecord (c : net.Netlist) (budget : ℕ) (tests record_text said last : List ℕ) : Type 0 where
+pub record IsSyncRecord (c : net.Netlist) (budget : ℕ) (tests record_text said last : List ℕ) : Type
+    0 where
   pub answer : Synchronized
   pub is_answer : IsSynchronized c budget answer
   pub holds : SynchronizedHolds c budget answer
@@ -262,20 +283,22 @@ sync_acts tests out list body said last =
     make Tests tests ∷ make Report out ∷ put Tests list ∷ report_acts body said last
 
 -- Both files are written, as such a search leaves them.
-pub record WritesSync (tests out : List ℕ) (c : net.Netlist) (budget : ℕ) (acts : List Act) : Type 0 where
-  pub list : List ℕ
-  pub body : List ℕ
-  pub said : List ℕ
-  pub last : List ℕ
-  pub so : IsSyncRecord c budget list (body ++ last) said last
-  pub acts_are : acts ≡ sync_acts tests out list body said last
+pub record WritesSync (tests out : List ℕ) (c : net.Netlist) (budget : ℕ) (acts : List Act) : Type 0
+  where
+    pub list : List ℕ
+    pub body : List ℕ
+    pub said : List ℕ
+    pub last : List ℕ
+    pub so : IsSyncRecord c budget list (body ++ last) said last
+    pub acts_are : acts ≡ sync_acts tests out list body said last
 
 -- ---- `respond`
 
 -- the machine that the number of a fault names: the one with that fault, or without a number the good one
 abbrev pub IsMachineOf : net.Netlist → Option ℕ → Option Fault → Type 0
 IsMachineOf c None fault = fault ≡ None
-IsMachineOf c (Some number) fault = IsListed c (Some number) × (fault ≡ Some (fault_at c (number - 1)))
+IsMachineOf c (Some number) fault = IsListed c (Some number)
+    × (fault ≡ Some (fault_at c (number - 1)))
 
 -- The file is made and written.
 abbrev pub response_acts : List ℕ → List ℕ → List ℕ → List ℕ → List Act
@@ -292,12 +315,33 @@ pub record WritesResponses (out : List ℕ) (c : net.Netlist) (number : Option �
   pub so : IsResponses c fault start list body last said
   pub acts_are : acts ≡ response_acts out body said last
 
+-- ---- `breed`
+
+-- The text is that of all vectors, and the total line says how many of them were given and how many bred, and how many
+-- of the representatives they detect.
+pub record AreBredTexts (representatives : List ℕ) (given : ℕ) (bred : Bred)
+    (text total : List ℕ) : Type 0 where
+  pub text_is : text ≡ test_text bred.vectors.list
+  pub total_is : total ≡ with_lf (bred_line given bred.count bred.detected
+      (length (own_representatives representatives)))
+
+-- The text is that of these vectors and of at most so many others after them, and the total line says what all of them
+-- detect from the start.
+pub record IsBreeding (c : Netlist) (start : List Tern) (list : List (List Bool)) (most : ℕ)
+    (text total : List ℕ) : Type 0 where
+  pub representatives : List ℕ
+  pub bred : Bred
+  pub classes : AreClasses c representatives
+  pub is_bred : IsBred c representatives start list most bred
+  pub texts : AreBredTexts representatives (length list) bred text total
+
 -- ---- all commands
 
 -- What each command does to its outputs, once its inputs say the basis.
 abbrev pub OutputOf : Kind → Asked → JobBasis → List Act → Type 0
 OutputOf sim job basis acts = MakesAt job Report (λ out. WritesFile Report out
-    (λ body total. IsReportOf basis.circuit basis.content.start basis.content.list (body ++ total) total) acts)
+    (λ body total. IsReportOf basis.circuit basis.content.start basis.content.list
+    (body ++ total) total) acts)
 OutputOf gen job basis acts = (files : RunFiles) × (job.makes ≡ made_by files)
     × WritesFiles files basis.circuit (settings_of basis job) acts
 OutputOf check job basis acts = AreTrue basis × (acts ≡ put Out (codes "valid\n") ∷ [])
@@ -305,9 +349,11 @@ OutputOf norm job basis acts =
     MakesAt job Report (λ out. acts ≡ make Report out ∷ put Report (normal_text basis.circuit) ∷ [])
 OutputOf demo job basis acts = SaysTotals job.numbers.size job.numbers.seed acts
 OutputOf compact job basis acts =
-    MakesAt job Tests (λ out. WritesFile Tests out (IsCompactionOf basis.circuit basis.content.list) acts)
+    MakesAt job Tests (λ out. WritesFile Tests out (IsCompactionOf basis.circuit basis.content.list)
+    acts)
 OutputOf diagnose job basis acts = MakesAt job Report (λ out. WritesFile Report out
-    (λ body total. IsDiagnosisReport basis.circuit basis.content.list basis.rows (body ++ total) total) acts)
+    (λ body total. IsDiagnosisReport basis.circuit basis.content.list basis.rows
+    (body ++ total) total) acts)
 OutputOf uninit job basis acts = MakesAt job Report (λ out. WritesFile Report out
     (λ body total. IsUninitReport basis.circuit job.numbers.budget (body ++ total) total) acts)
 OutputOf sync job basis acts = MakesAt job Tests (λ tests.
@@ -315,8 +361,11 @@ OutputOf sync job basis acts = MakesAt job Tests (λ tests.
 OutputOf respond job basis acts = MakesAt job Report (λ out.
     WritesResponses out basis.circuit job.numbers.fault basis.content.start basis.content.list acts)
 OutputOf report job basis acts = (basis.content.budget ≡ job.numbers.budget) × AreTrue basis
-    × MakesAt job Report (λ out. WritesFile Report out (λ body total. IsReportOfVerdicts basis.circuit
+    × MakesAt job Report
+    (λ out. WritesFile Report out (λ body total. IsReportOfVerdicts basis.circuit
     basis.representatives basis.content.budget basis.content.saids (body ++ total) total) acts)
+OutputOf breed job basis acts = MakesAt job Tests (λ out. WritesFile Tests out
+    (IsBreeding basis.circuit basis.content.start basis.content.list job.numbers.bred) acts)
 
 -- what the command of a job does
 abbrev pub MakesOutput : Asked → JobBasis → List Act → Type 0

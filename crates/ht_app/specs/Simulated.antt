@@ -8,7 +8,8 @@ use Rattle.ht_texts.specs.declared.said.Said.{Said}
 use Rattle.ht_texts.specs.Verdicts.{saids_of}
 
 -- What is said of the faults is what the vectors show first, from the start.
-pub record SayDetections (c : Netlist) (representatives : List ℕ) (start : List Tern) (list : List (List Bool))
+pub record SayDetections (c : Netlist) (representatives : List ℕ) (start : List Tern)
+    (list : List (List Bool))
     (saids : List Said) : Type 0 where
   pub places : List (Option Place)
   pub detections : AreFirstDetections c representatives start list places

@@ -201,7 +201,8 @@ fn say_lines<D: Desk>(
 /// `NoMemory`, or `WriteFault`.
 pub fn demo<D: Desk>(alloc: Global, size: u32, seed: u64, desk: &mut D) -> Result<(), RunError>
     requires { (MIN_SIZE ≤ size) × (size ≤ MAX_SIZE) }
-    ensures { EndsJob (asked_by (job_of.Demo size seed)) result (D.view desk.old) (D.view desk.new) }
+    ensures { EndsJob (asked_by (job_of.Demo size seed)) result (D.view desk.old)
+        (D.view desk.new) }
 {
     let prepared = prepare(alloc, size, seed)?;
     let said = say_lines(alloc, &prepared, seed, desk);

@@ -3,9 +3,11 @@ use Rattle.std.proofs.Common.{◌≡◌, ◌∷◌, Bool, true, false, cond, Lis
 use Rattle.std.specs.Prelude.{find, map, option_and_then}
 use Rattle.std.specs.Str.{bytes_eq}
 use Rattle.ht_asked.specs.Forms.{given}
-use Rattle.ht_asked.specs.Asked.{Asked, Kind}
-use Rattle.ht_asked.specs.Asked.{sim}
-use Rattle.ht_asked.specs.Commands.{Command, asked, command_of, kinds, words_of}
+use Rattle.ht_asked.specs.Asked.{Asked}
+use Rattle.ht_asked.specs.Table.{Kind}
+use Rattle.ht_asked.specs.Table.{sim}
+use Rattle.ht_asked.specs.Commands.{Command, asked, command_of, words_of}
+use Rattle.ht_asked.specs.Table.{kinds}
 use Rattle.ht_asked.specs.ByClap.{app_with, asked_by_clap, given_by_clap}
 use Rattle.ht_asked.proofs.Readable.{are_readable}
 use Rattle.ht_asked.proofs.FormByClap.{IsSound, form_by_clap}

@@ -3,8 +3,9 @@ use Rattle.std.proofs.Common.{◌≡◌, ◌∷◌, ◌++◌, ◌==◌, ℕ, tru
 use Rattle.std.specs.Prelude.{if◌then◌else◌}
 use Rattle.clap.specs.Walk.{Text}
 use Rattle.ht_asked.specs.Forms.{given, parts}
-use Rattle.ht_asked.specs.Asked.{Asked, InNames, Kind, Numbers, OutNames, makes_nothing, reads_nothing, unsaid}
-use Rattle.ht_asked.specs.Asked.{check, compact, demo, diagnose, gen, report, respond, sync, uninit}
+use Rattle.ht_asked.specs.Asked.{Asked, InNames, Numbers, OutNames, makes_nothing, reads_nothing, unsaid}
+use Rattle.ht_asked.specs.Table.{Kind}
+use Rattle.ht_asked.specs.Table.{breed, check, compact, demo, diagnose, gen, report, respond, sync, uninit}
 use Rattle.ht_asked.specs.Commands.{asked, budget_of, command_of}
 use Rattle.ht_asked.specs.ByClap.{app_with, given_by_clap}
 use Rattle.ht_asked.proofs.States.{AreReadable}
@@ -126,7 +127,8 @@ compacts tests out = job_of compact (of_tests tests) (record makes_nothing { tes
 
 -- `compact` has three names, `diagnose` four, and neither has an option
 further : map asks (codes "compact n t o" ∷ codes "compact n -- -t -" ∷ codes "compact n t" ∷ codes "compact n t o p"
-    ∷ codes "Compact n t o" ∷ codes "diagnose n t r o" ∷ codes "diagnose n t r" ∷ codes "diagnose n t r o --seed=3" ∷ [])
+    ∷ codes "Compact n t o" ∷ codes "diagnose n t r o" ∷ codes "diagnose n t r" ∷ codes "diagnose n t r o --seed=3"
+    ∷ [])
     ≡ compacts (codes "t") (codes "o") ∷ compacts (codes "-t") (codes "-") ∷ None ∷ None ∷ None
     ∷ job_of diagnose (record (of_tests (codes "t")) { extra = Some (codes "r") }) (to_report (codes "o")) unsaid
     ∷ None ∷ None ∷ []
@@ -141,7 +143,8 @@ of_netlist out budget = job_of uninit (record reads_nothing { netlist = Some (co
 uninits : map asks (codes "uninit n o" ∷ codes "uninit n --budget 100000 o" ∷ codes "uninit --budget=007 n -- -o"
     ∷ codes "uninit n" ∷ codes "uninit n o p" ∷ codes "uninit n o --budget=0" ∷ codes "uninit n o --budget=100001"
     ∷ codes "uninit n o --random=3" ∷ [])
-    ≡ of_netlist (codes "o") 1000 ∷ of_netlist (codes "o") 100000 ∷ of_netlist (codes "-o") 7 ∷ None ∷ None ∷ None ∷ None ∷ None ∷ []
+    ≡ of_netlist (codes "o") 1000 ∷ of_netlist (codes "o") 100000 ∷ of_netlist (codes "-o") 7 ∷ None ∷ None ∷ None
+    ∷ None ∷ None ∷ []
 unfolding asked given parts
 uninits = refl
 
@@ -184,12 +187,26 @@ reports : map asks (codes "report n t p r" ∷ codes "report --budget=007 n t p 
 unfolding asked given parts
 reports = refl
 
+abbrev breeds : ℕ → ℕ → Option Text → Option Asked
+breeds bred seed start = job_of breed (record (of_tests (codes "t")) { extra = start })
+    (record makes_nothing { tests = Some (codes "o") }) (record unsaid { bred = bred; seed = seed })
+
+-- `breed` has three names, and may have a count of vectors, a seed and a start
+breeding : map asks (codes "breed n t o" ∷ codes "breed --vectors=0 n t o --seed 7" ∷ codes "breed n t --start s o"
+    ∷ codes "breed n t o --vectors 100000" ∷ codes "breed n t o --vectors 100001" ∷ codes "breed n t"
+    ∷ codes "breed n t o --budget=5" ∷ [])
+    ≡ breeds 2000 0 None ∷ breeds 0 7 None ∷ breeds 2000 0 (Some (codes "s")) ∷ breeds 100000 0 None
+    ∷ None ∷ None ∷ None ∷ []
+unfolding asked given parts
+breeding = refl
+
 -- `clap` reads the command's form as the plain reading does
 by_clap : (words : List Text) → AreReadable words
     → given_by_clap (app_with (command_of gen).name (command_of gen).form) (command_of gen).form (codes "gen" ∷ words)
     ≡ given (command_of gen).form words
 by_clap words =
-    form_by_clap (command_of gen).name (command_of gen).form (record { differ = refl; few = omega arith }) (codes "gen") words
+    form_by_clap (command_of gen).name (command_of gen).form (record { differ = refl; few = omega arith })
+    (codes "gen") words
 
 -- from 1 to 100000, or 1000 where it is left out
 budgets : map budget_of (None ∷ Some (codes "7") ∷ Some (codes "007") ∷ Some (codes "100000") ∷ Some (codes "0") ∷ [])

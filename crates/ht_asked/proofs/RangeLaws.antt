@@ -6,12 +6,15 @@ use Rattle.std.specs.Str.Parse.{digits_value}
 use Rattle.std.proofs.lemmas.Bool.{leb-true}
 use Rattle.clap.specs.Walk.{Text}
 use Rattle.clap.proofs.WalkLemmas.{both}
-use Rattle.ht_asked.specs.declared.limits.TheConstants.{MAX_BUDGET, MAX_FAULT, MAX_RANDOM, MAX_SEED, MAX_SIZE, MIN_BUDGET, MIN_FAULT, MIN_SIZE}
+use Rattle.ht_asked.specs.declared.limits.TheConstants.{MAX_BRED, MAX_BUDGET, MAX_FAULT, MAX_RANDOM, MAX_SEED, MAX_SIZE, MIN_BUDGET, MIN_FAULT, MIN_SIZE}
 use Rattle.ht_asked.specs.Forms.{Given, given}
 use Rattle.ht_asked.specs.Numbers.{is_number, number_in, number_or}
-use Rattle.ht_asked.specs.Asked.{Asked, InNames, Kind, Numbers, OutNames}
-use Rattle.ht_asked.specs.Commands.{Command, Sorted, asked, budget_of, command_of, command_row, deep_of, demo_size, fault_of}
-use Rattle.ht_asked.specs.Commands.{job_said, kinds, numbers_with, random_of, seed_of, sorted_by}
+use Rattle.ht_asked.specs.Asked.{Asked, InNames, Numbers, OutNames}
+use Rattle.ht_asked.specs.Table.{Kind}
+use Rattle.ht_asked.specs.Commands.{Command, Sorted, asked, bred_of, budget_of, command_of, deep_of, demo_size, fault_of}
+use Rattle.ht_asked.specs.Table.{command_row}
+use Rattle.ht_asked.specs.Commands.{job_said, numbers_with, random_of, seed_of, sorted_by}
+use Rattle.ht_asked.specs.Table.{kinds}
 use Rattle.ht_asked.specs.Ranges.{IsInRange}
 
 -- ---- numbers
@@ -54,25 +57,28 @@ fault_in_range (Some text) = go (number_in MIN_FAULT MAX_FAULT text) (number_is_
 abbrev AsksInRange : Option Asked → Type 0
 AsksInRange asks = IfSome asks IsInRange
 
-by_numbers : (kind : Kind) (reads : InNames) (makes : OutNames) (budget random weighted seed : Option ℕ)
+by_numbers : (kind : Kind) (reads : InNames) (makes : OutNames) (budget random weighted bred seed : Option ℕ)
     (deep : Option Bool) (fault : Option (Option ℕ)) (size : Option ℕ)
     → IfSome budget (InRange MIN_BUDGET MAX_BUDGET) → IfSome random (InRange 0 MAX_RANDOM)
-    → IfSome weighted (InRange 0 MAX_RANDOM) → IfSome seed (InRange 0 MAX_SEED) → IfSome fault FaultInRange
-    → IfSome size (InRange MIN_SIZE MAX_SIZE)
+    → IfSome weighted (InRange 0 MAX_RANDOM) → IfSome bred (InRange 0 MAX_BRED)
+    → IfSome seed (InRange 0 MAX_SEED) → IfSome fault FaultInRange → IfSome size (InRange MIN_SIZE MAX_SIZE)
     → AsksInRange (option_map
     (λ (n : Numbers). record { command = kind; reads = reads; makes = makes; numbers = n })
-    (numbers_with budget random weighted seed deep fault size))
-by_numbers kind reads makes (Some b) (Some r) (Some w) (Some s) (Some d) (Some f) (Some z) bs rs ws ss fs zs =
-    record { budget = bs; random = rs.1; weighted = ws.1; seed = ss.1; fault = fs; size = zs }
-by_numbers kind reads makes _ _ _ _ _ _ _ bs rs ws ss fs zs = tt
+    (numbers_with budget random weighted bred seed deep fault size))
+by_numbers kind reads makes (Some b) (Some r) (Some w) (Some n) (Some s) (Some d) (Some f) (Some z) bs rs ws ns ss fs
+    zs =
+    record { budget = bs; random = rs.1; weighted = ws.1; bred = ns.1; seed = ss.1; fault = fs; size = zs }
+by_numbers kind reads makes _ _ _ _ _ _ _ _ bs rs ws ns ss fs zs = tt
 
 said_in_range : (kind : Kind) (texts : Sorted) → AsksInRange (job_said kind texts)
 said_in_range kind texts = by_numbers kind texts.reads texts.makes (budget_of texts.numbers.budget)
-    (random_of texts.numbers.random) (random_of texts.numbers.weighted) (seed_of texts.numbers.seed)
-    (deep_of texts.numbers.depth) (fault_of texts.numbers.fault) (demo_size texts.numbers.size)
+    (random_of texts.numbers.random) (random_of texts.numbers.weighted) (bred_of texts.numbers.bred)
+    (seed_of texts.numbers.seed) (deep_of texts.numbers.depth) (fault_of texts.numbers.fault)
+    (demo_size texts.numbers.size)
     (option_is_in_range 1000 MIN_BUDGET MAX_BUDGET (omega arith, omega arith) texts.numbers.budget)
     (option_is_in_range 0 0 MAX_RANDOM (omega arith, omega arith) texts.numbers.random)
     (option_is_in_range 0 0 MAX_RANDOM (omega arith, omega arith) texts.numbers.weighted)
+    (option_is_in_range 2000 0 MAX_BRED (omega arith, omega arith) texts.numbers.bred)
     (option_is_in_range 0 0 MAX_SEED (omega arith, omega arith) texts.numbers.seed)
     (fault_in_range texts.numbers.fault)
     (option_is_in_range 1 MIN_SIZE MAX_SIZE (omega arith, omega arith) texts.numbers.size)

@@ -1,21 +1,8 @@
 -- A job as words ask for it: its command, the names of its files by port, and its numbers.
 use Rattle.std.specs.Prelude.{ℕ, Bool, false, Option, None}
 use Rattle.clap.specs.Walk.{Text}
-use Rattle.ht_asked.specs.declared.limits.TheConstants.{DEFAULT_BUDGET, DEFAULT_RANDOM, DEFAULT_SEED, MIN_SIZE}
-
--- the commands
-pub data Kind : Type 0 where
-  sim : Kind
-  gen : Kind
-  check : Kind
-  norm : Kind
-  demo : Kind
-  compact : Kind
-  diagnose : Kind
-  uninit : Kind
-  sync : Kind
-  respond : Kind
-  report : Kind
+use Rattle.ht_asked.specs.Table.{Kind}
+use Rattle.ht_asked.specs.declared.limits.TheConstants.{DEFAULT_BRED, DEFAULT_BUDGET, DEFAULT_RANDOM, DEFAULT_SEED, MIN_SIZE}
 
 -- the names of the files to be read, by port: a start, or the responses of `diagnose`, stand at the port Extra
 pub record InNames : Type 0 where
@@ -28,7 +15,14 @@ pub record InNames : Type 0 where
 
 -- no file is read
 abbrev pub reads_nothing : InNames
-reads_nothing = record { netlist = None; tests = None; report = None; proofs = None; faults = None; extra = None }
+reads_nothing = record {
+  netlist = None;
+  tests = None;
+  report = None;
+  proofs = None;
+  faults = None;
+  extra = None;
+}
 
 -- the names of the files to be made, by port
 pub record OutNames : Type 0 where
@@ -41,12 +35,13 @@ abbrev pub makes_nothing : OutNames
 makes_nothing = record { tests = None; report = None; proofs = None }
 
 -- the numbers of a job: the budget of each search, how many random vectors come first, how many weighted ones after
--- them, the seed of both, whether the search is deep, the fault whose machine is shown, and the size of a demonstration
--- netlist
+-- them, how many are bred at most, the seed of all, whether the search is deep, the fault whose machine is shown, and
+-- the size of a demonstration netlist
 pub record Numbers : Type 0 where
   pub budget : ℕ
   pub random : ℕ
   pub weighted : ℕ
+  pub bred : ℕ
   pub seed : ℕ
   pub deep : Bool
   pub fault : Option ℕ
@@ -58,6 +53,7 @@ unsaid = record {
   budget = DEFAULT_BUDGET;
   random = DEFAULT_RANDOM;
   weighted = DEFAULT_RANDOM;
+  bred = DEFAULT_BRED;
   seed = DEFAULT_SEED;
   deep = false;
   fault = None;

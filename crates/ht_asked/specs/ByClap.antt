@@ -68,4 +68,5 @@ command_by_clap c words =
 
 -- what all the words ask for: `clap` is given the command's name with them
 unfoldable pub asked_by_clap : List Text → Option Asked
-asked_by_clap words = asked_in (λ c rest. given_by_clap (app_with c.name c.form) c.form (c.name ∷ rest)) words
+asked_by_clap words =
+    asked_in (λ c rest. given_by_clap (app_with c.name c.form) c.form (c.name ∷ rest)) words

@@ -1,142 +1,23 @@
--- The table of the commands, a row each, and what the words of the command line ask for by it.
+-- What the words of the command line ask for, by the table of the commands.
 use Rattle.std.specs.Prelude.{Bool, true, false, if◌then◌else◌, List, [], ◌∷◌, Option, Some, None, ℕ}
 use Rattle.std.specs.Prelude.{codes, find, map, option_and_then, option_map, String, string_bytes}
 use Rattle.std.specs.Global.{Global}
-use Rattle.std.specs.List.{list_any}
 use Rattle.std.specs.Str.{bytes_eq}
 use Rattle.clap.specs.Walk.{Text}
-use Rattle.ht_ports.specs.declared.ports.InPort.{InPort}
 use Rattle.ht_ports.specs.declared.ports.InPort.TheVariants as in_port
-use Rattle.ht_ports.specs.declared.ports.OutPort.{OutPort}
 use Rattle.ht_ports.specs.declared.ports.OutPort.TheVariants as out_port
-use Rattle.ht_asked.specs.declared.limits.TheConstants.{DEFAULT_BUDGET, MAX_BUDGET, MIN_BUDGET}
+use Rattle.ht_asked.specs.declared.limits.TheConstants.{DEFAULT_BRED, DEFAULT_BUDGET, MAX_BRED, MAX_BUDGET, MIN_BUDGET}
 use Rattle.ht_asked.specs.declared.limits.TheConstants.{DEFAULT_RANDOM, DEFAULT_SEED, MAX_RANDOM, MAX_SEED}
 use Rattle.ht_asked.specs.declared.limits.TheConstants.{MAX_FAULT, MAX_SIZE, MIN_FAULT, MIN_SIZE}
-use Rattle.ht_asked.specs.Asked.{Asked, InNames, Kind, Numbers, OutNames, makes_nothing, reads_nothing}
-use Rattle.ht_asked.specs.Asked.{sim, gen, check, norm, demo, compact, diagnose, uninit, sync, respond, report}
+use Rattle.ht_asked.specs.Asked.{Asked, InNames, Numbers, OutNames, makes_nothing, reads_nothing}
 use Rattle.ht_asked.specs.Forms.{Form, Given, given}
 use Rattle.ht_asked.specs.Numbers.{number_in, number_or}
+use Rattle.ht_asked.specs.Table.{Argument, Kind, Role, Row, command_row, file_made, file_read, kinds, says_budget}
+use Rattle.ht_asked.specs.Table.{says_bred, says_depth, says_fault, says_random, says_seed, says_size, says_weighted}
 
 -- the words as their bytes
 abbrev pub words_of : List (String Global) → List Text
 words_of = map (λ s. string_bytes s)
-
--- ---- what an argument is for
-
--- what the text of an argument is for: it names the file that is read at a port, or made at one, or it says a number
--- or a choice
-pub data Role : Type 0 where
-  file_read : InPort → Role
-  file_made : OutPort → Role
-  says_budget : Role
-  says_random : Role
-  says_weighted : Role
-  says_seed : Role
-  says_depth : Role
-  says_fault : Role
-  says_size : Role
-
--- an argument of a command: its name, and what it is for
-pub record Argument : Type 0 where
-  pub name : Text
-  pub role : Role
-
--- an argument that names the file which is read at the port
-abbrev pub input : Text → InPort → Argument
-input name port = record { name = name; role = file_read port }
-
--- an argument that names the file which is made at the port
-abbrev pub output : Text → OutPort → Argument
-output name port = record { name = name; role = file_made port }
-
--- an argument that says a number or a choice
-abbrev pub number : Text → Role → Argument
-number name role = record { name = name; role = role }
-
--- the netlist, which is read
-abbrev pub of_netlist : Argument
-of_netlist = input (codes "netlist") in_port.Netlist
-
--- the tests, which are read
-abbrev pub of_tests : Argument
-of_tests = input (codes "tests") in_port.Tests
-
--- the file that a command makes at the port Report
-abbrev pub of_out : Argument
-of_out = output (codes "out") out_port.Report
-
--- the start
-abbrev pub of_start : Argument
-of_start = input (codes "start") in_port.Extra
-
--- the budget of a search
-abbrev pub of_budget : Argument
-of_budget = number (codes "budget") says_budget
-
--- the argument is a file at the port Extra: among options that is the start
-abbrev pub names_extra : Role → Bool
-names_extra (file_read in_port.Extra) = true
-names_extra role = false
-
--- ---- the table
-
--- a command: its name in lower case, its positionals in their order, and its options; whether it says something on Out,
--- whether it does so before the work, and whether it makes its files before the work
-pub record Row : Type 0 where
-  pub name : Text
-  pub positionals : List Argument
-  pub options : List Argument
-  pub says_on_out : Bool
-  pub says_early : Bool
-  pub makes_early : Bool
-
--- a command that says something on Out, and makes its files and says it once the work is done
-abbrev pub row_with : Text → List Argument → List Argument → Row
-row_with name positionals options = record {
-  name = name;
-  positionals = positionals;
-  options = options;
-  says_on_out = true;
-  says_early = false;
-  makes_early = false;
-}
-
--- the row of each command
-abbrev pub command_row : Kind → Row
-command_row sim = row_with (codes "sim")
-    (of_netlist ∷ of_tests ∷ output (codes "report") out_port.Report ∷ []) (of_start ∷ [])
-command_row gen = record (row_with (codes "gen")
-    (of_netlist ∷ output (codes "tests") out_port.Tests ∷ output (codes "report") out_port.Report
-    ∷ output (codes "proofs") out_port.Proofs ∷ [])
-    (of_budget ∷ number (codes "random") says_random ∷ number (codes "seed") says_seed ∷ of_start
-    ∷ input (codes "first") in_port.Tests ∷ input (codes "faults") in_port.Faults
-    ∷ number (codes "weighted") says_weighted ∷ number (codes "search") says_depth ∷ [])) { makes_early = true }
-command_row check = row_with (codes "check")
-    (of_netlist ∷ of_tests ∷ input (codes "report") in_port.Report ∷ input (codes "proofs") in_port.Proofs ∷ [])
-    (of_start ∷ [])
-command_row norm = record (row_with (codes "norm") (of_netlist ∷ of_out ∷ []) []) { says_on_out = false }
-command_row demo = record (row_with (codes "demo")
-    (number (codes "size") says_size ∷ number (codes "seed") says_seed ∷ []) []) { says_early = true }
-command_row compact = row_with (codes "compact")
-    (of_netlist ∷ of_tests ∷ output (codes "out") out_port.Tests ∷ []) []
-command_row diagnose = row_with (codes "diagnose")
-    (of_netlist ∷ of_tests ∷ input (codes "responses") in_port.Extra ∷ of_out ∷ []) []
-command_row uninit = row_with (codes "uninit") (of_netlist ∷ of_out ∷ []) (of_budget ∷ [])
-command_row sync = row_with (codes "sync")
-    (of_netlist ∷ output (codes "tests") out_port.Tests ∷ of_out ∷ []) (of_budget ∷ [])
-command_row respond = row_with (codes "respond") (of_netlist ∷ of_tests ∷ of_out ∷ [])
-    (number (codes "fault") says_fault ∷ of_start ∷ [])
-command_row report = row_with (codes "report")
-    (of_netlist ∷ of_tests ∷ input (codes "proofs") in_port.Proofs ∷ output (codes "report") out_port.Report ∷ [])
-    (of_budget ∷ of_start ∷ [])
-
--- the commands, in the order of the usage line
-abbrev pub kinds : List Kind
-kinds = sim ∷ gen ∷ check ∷ norm ∷ demo ∷ compact ∷ diagnose ∷ uninit ∷ sync ∷ respond ∷ report ∷ []
-
--- the command may state a start
-abbrev pub takes_start : Kind → Bool
-takes_start kind = list_any (λ (a : Argument). names_extra a.role) (command_row kind).options
 
 -- ---- numbers and choices
 
@@ -149,7 +30,11 @@ budget_of = number_or DEFAULT_BUDGET MIN_BUDGET MAX_BUDGET
 abbrev pub random_of : Option Text → Option ℕ
 random_of = number_or DEFAULT_RANDOM 0 MAX_RANDOM
 
--- the seed of random and weighted vectors, or of a demonstration netlist, where the text is one or is left out
+-- how many vectors are bred at most, where the option's text says it or is left out
+abbrev pub bred_of : Option Text → Option ℕ
+bred_of = number_or DEFAULT_BRED 0 MAX_BRED
+
+-- the seed of random, weighted and bred vectors, or of a demonstration netlist, where the text is one or is left out
 abbrev pub seed_of : Option Text → Option ℕ
 seed_of = number_or DEFAULT_SEED 0 MAX_SEED
 
@@ -175,6 +60,7 @@ pub record NumberTexts : Type 0 where
   pub budget : Option Text
   pub random : Option Text
   pub weighted : Option Text
+  pub bred : Option Text
   pub seed : Option Text
   pub depth : Option Text
   pub fault : Option Text
@@ -195,6 +81,7 @@ nothing_sorted = record {
     budget = None;
     random = None;
     weighted = None;
+    bred = None;
     seed = None;
     depth = None;
     fault = None;
@@ -217,6 +104,7 @@ sort_in (file_made port) text s = s
 sort_in says_budget text s = record s { numbers = record s.numbers { budget = text } }
 sort_in says_random text s = record s { numbers = record s.numbers { random = text } }
 sort_in says_weighted text s = record s { numbers = record s.numbers { weighted = text } }
+sort_in says_bred text s = record s { numbers = record s.numbers { bred = text } }
 sort_in says_seed text s = record s { numbers = record s.numbers { seed = text } }
 sort_in says_depth text s = record s { numbers = record s.numbers { depth = text } }
 sort_in says_fault text s = record s { numbers = record s.numbers { fault = text } }
@@ -225,7 +113,8 @@ sort_in says_size text s = record s { numbers = record s.numbers { size = text }
 -- the texts of these arguments, after others and in their order, where there is one for each
 abbrev pub sorted : Sorted → List Argument → List (Option Text) → Option Sorted
 sorted s [] [] = Some s
-sorted s (argument ∷ arguments) (text ∷ texts) = sorted (sort_in argument.role text s) arguments texts
+sorted s (argument ∷ arguments) (text ∷ texts) = sorted (sort_in argument.role text s) arguments
+    texts
 sorted s _ _ = None
 
 -- the texts of a command's positionals, and those of its options
@@ -234,29 +123,36 @@ sorted_by row positionals options = option_and_then (λ s. sorted s row.options 
     (sorted nothing_sorted row.positionals (map Some positionals))
 
 -- the numbers and choices, where each is one
-abbrev pub numbers_with : Option ℕ → Option ℕ → Option ℕ → Option ℕ → Option Bool → Option (Option ℕ) → Option ℕ
-    → Option Numbers
-numbers_with (Some budget) (Some random) (Some weighted) (Some seed) (Some deep) (Some fault) (Some size) =
+abbrev pub numbers_with : Option ℕ → Option ℕ → Option ℕ → Option ℕ → Option ℕ → Option Bool
+    → Option (Option ℕ) → Option ℕ → Option Numbers
+numbers_with (Some budget) (Some random) (Some weighted) (Some bred) (Some seed) (Some deep)
+    (Some fault) (Some size) =
     Some (record {
       budget = budget;
       random = random;
       weighted = weighted;
+      bred = bred;
       seed = seed;
       deep = deep;
       fault = fault;
       size = size;
     })
-numbers_with _ _ _ _ _ _ _ = None
+numbers_with _ _ _ _ _ _ _ _ = None
 
 -- the numbers and choices that their texts say, where each of them says one
 abbrev pub numbers_said : NumberTexts → Option Numbers
-numbers_said t = numbers_with (budget_of t.budget) (random_of t.random) (random_of t.weighted) (seed_of t.seed)
-    (deep_of t.depth) (fault_of t.fault) (demo_size t.size)
+numbers_said t = numbers_with (budget_of t.budget) (random_of t.random) (random_of t.weighted)
+    (bred_of t.bred) (seed_of t.seed) (deep_of t.depth) (fault_of t.fault) (demo_size t.size)
 
 -- the job of a command that the texts of its arguments ask for, where each of its numbers is one
 abbrev pub job_said : Kind → Sorted → Option Asked
 job_said kind texts = option_map
-    (λ numbers. record { command = kind; reads = texts.reads; makes = texts.makes; numbers = numbers })
+    (λ numbers. record {
+      command = kind;
+      reads = texts.reads;
+      makes = texts.makes;
+      numbers = numbers;
+    })
     (numbers_said texts.numbers)
 
 -- a command as its words are read: its name, the form of the words after it, and what they ask for
@@ -277,7 +173,8 @@ command_of kind = record {
     positionals = argument_names (command_row kind).positionals;
     options = argument_names (command_row kind).options;
   };
-  asks = λ g. option_and_then (job_said kind) (sorted_by (command_row kind) g.positionals g.options);
+  asks = λ g. option_and_then (job_said kind)
+      (sorted_by (command_row kind) g.positionals g.options);
 }
 
 -- the command that has this name, if there is one

@@ -79,14 +79,14 @@ abbrev pub text_of : Text → List (Text × Text) → Option Text
 text_of name options = option_map (λ o. o.1) (find (λ o. bytes_eq o.0 name) options)
 
 -- as many positionals as the form has, and options of its own alone, none of them twice
-abbrev pub has_form : Form → List Part → Bool
-has_form form parts = length (positionals_of parts) == length form.positionals
+abbrev pub fits_form : Form → List Part → Bool
+fits_form form parts = length (positionals_of parts) == length form.positionals
     && (list_all (λ o. is_among o.0 form.options) (options_of parts)
     && all_differ (map (λ o. o.0) (options_of parts)))
 
 -- what the parts give to the form, where they have it
 abbrev pub given_by : Form → List Part → Option Given
-given_by form parts = if has_form form parts then Some (record {
+given_by form parts = if fits_form form parts then Some (record {
   positionals = positionals_of parts;
   options = map (λ name. text_of name (options_of parts)) form.options;
 }) else None

@@ -1,5 +1,6 @@
 pub mod Forms
 pub mod Numbers
+pub mod Table
 pub mod Asked
 pub mod Commands
 pub mod Usage

@@ -1,7 +1,8 @@
 //! What the words of a command line ask for: the definitions that the top call's contract cites, and their laws.
 //!
-//! `specs/Asked` is what is asked for: a command, the names of its files by port, and its numbers; `specs/Commands` is the
-//! table of the commands, a row each, and what words ask for by it, and `specs/Usage` the usage line that is made of it.
+//! `specs/Table` is the table of the commands, a row each, `specs/Commands` what words ask for by it, and `specs/Usage` the
+//! usage line that is made of it. `specs/Asked` is what is asked for: a command, the names of its files by port, and its
+//! numbers.
 //! `specs/Forms` says which words have a command's form, and what they give to its positionals and options;
 //! `specs/Numbers` is how a number in a range is read, `limits` has the ranges, and `specs/Ranges` says which numbers a
 //! job has. `specs/ByClap` says the same as `specs/Commands` by `clap`'s own
@@ -12,6 +13,6 @@
 mod limits;
 
 pub use limits::{
-    DEFAULT_BUDGET, DEFAULT_RANDOM, DEFAULT_SEED, MAX_BUDGET, MAX_FAULT, MAX_RANDOM, MAX_SEED,
-    MAX_SIZE, MIN_BUDGET, MIN_FAULT, MIN_SIZE,
+    DEFAULT_BRED, DEFAULT_BUDGET, DEFAULT_RANDOM, DEFAULT_SEED, MAX_BRED, MAX_BUDGET, MAX_FAULT,
+    MAX_RANDOM, MAX_SEED, MAX_SIZE, MIN_BUDGET, MIN_FAULT, MIN_SIZE,
 };

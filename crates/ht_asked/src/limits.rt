@@ -15,11 +15,17 @@ pub const DEFAULT_RANDOM: u64 = 0;
 /// The most random vectors, and the most weighted ones.
 pub const MAX_RANDOM: u64 = 100_000;
 
-/// The seed of the random and weighted vectors where the words give none.
+/// The seed of the random, weighted and bred vectors where the words give none.
 pub const DEFAULT_SEED: u64 = 0;
 
 /// The greatest seed.
 pub const MAX_SEED: u64 = 18_446_744_073_709_551_615;
+
+/// How many vectors are bred at most where the words don't say.
+pub const DEFAULT_BRED: u64 = 2_000;
+
+/// The most vectors that are bred.
+pub const MAX_BRED: u64 = 100_000;
 
 /// The least size of a demonstration netlist.
 pub const MIN_SIZE: u64 = 1;

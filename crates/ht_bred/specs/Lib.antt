@@ -1,2 +1,3 @@
 pub mod Bred
 pub mod Extended
+pub mod BredText

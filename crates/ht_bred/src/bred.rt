@@ -3,13 +3,11 @@ ghost use Rattle.std.specs.Prelude.{◌≡◌, ◌≤◌, [], IfOk};
 ghost use Rattle.ht_net.specs.Detect.Detection.{IsStart};
 ghost use Rattle.ht_faults.specs.Sites.{faults_of};
 ghost use Rattle.ht_faults.specs.Classes.{AreClasses};
-ghost use Rattle.ht_breed.specs.Bursts.{IsBurst};
 ghost use Rattle.ht_bred.specs.Bred.{IsBred};
 ghost use Rattle.ht_bred.specs.Extended.{AreExtended};
 
-use crate::live::{Live, all_live, detected_count, own_faults, take_detected};
-use crate::vectors::append;
-use ht_breed::Breeder;
+use crate::bursts::Bursts;
+use crate::live::detected_count;
 use ht_faults::{Classes, FaultList};
 use ht_net::{Circuit, Place, Vectors};
 use ht_proofs::ClassGrader;
@@ -30,79 +28,19 @@ pub struct Bred {
     pub detected: usize,
 }
 
-// The breeder for the representatives of all classes.
-fn breeder_of(
-    alloc: Global,
-    circuit: &Circuit,
-    faults: &FaultList,
-    classes: &Classes,
-    seed: u64,
-) -> Result<Breeder, AllocError>
-    ensures { IfOk result (λ breeder. breeder ≡ circuit.now.inputs) }
-{
-    let own = own_faults(alloc, faults, classes)?;
-    Breeder::new(alloc, circuit, &own, seed)
-}
-
-// Applies a burst, and adds it to the list. How many vectors it has.
-fn apply_burst(
-    grader: &mut ClassGrader,
-    vectors: &mut Vectors,
-    burst: &Vectors,
-    most: u32,
-) -> Result<u32, AllocError>
-    requires width { vectors.old.width ≡ grader.old.machines.circuit.inputs }
-    requires burst { IsBurst grader.old.machines.circuit.inputs most burst.now }
-    ensures added { IfOk result (λ count. AreExtended grader.old grader.new
-        vectors.old.list vectors.old vectors.new count) }
-    ensures few { IfOk result (λ count. count ≤ most) }
-{
-    grader.apply(burst)?;
-    append(vectors, burst)?;
-    Ok(burst.len() as u32)
-}
-
-// Breeds a burst of at most so many vectors, applies it, and learns from it. How many vectors it has.
-fn breed_burst(
-    alloc: Global,
-    classes: &Classes,
-    grader: &mut ClassGrader,
-    breeder: &mut Breeder,
-    live: &mut Vec<Live>,
-    vectors: &mut Vectors,
-    most: u32,
-) -> Result<u32, AllocError>
-    requires classes { AreClasses grader.old.machines.circuit classes.now }
-    requires same { grader.old.representatives ≡ classes.now }
-    requires breeder { breeder.old ≡ grader.old.machines.circuit.inputs }
-    requires width { vectors.old.width ≡ grader.old.machines.circuit.inputs }
-    ensures breeder { breeder.new ≡ breeder.old }
-    ensures added { IfOk result (λ count. AreExtended grader.old grader.new
-        vectors.old.list vectors.old vectors.new count) }
-    ensures few { IfOk result (λ count. count ≤ most) }
-{
-    let state = grader.good_state(alloc)?;
-    let burst = breeder.burst(&state, most)?;
-    let count = apply_burst(grader, vectors, &burst.vectors, most)?;
-    let detected = take_detected(alloc, grader, classes, live)?;
-    breeder.learn(burst, &detected)?;
-    Ok(count)
-}
-
 // Breeds bursts until there are so many vectors, or no representative is left. How many vectors there are.
 #[tactic(auto, using(crate::proofs::ExtendedLaws::by_none, crate::proofs::ExtendedLaws::twice))]
 fn breed_bursts(
     alloc: Global,
     classes: &Classes,
     grader: &mut ClassGrader,
-    breeder: &mut Breeder,
-    live: &mut Vec<Live>,
+    bursts: &mut Bursts,
     vectors: &mut Vectors,
     most: u32,
 ) -> Result<u32, AllocError>
     requires classes { AreClasses grader.old.machines.circuit classes.now }
     requires same { grader.old.representatives ≡ classes.now }
-    requires breeder { breeder.old ≡ grader.old.machines.circuit.inputs }
+    requires bursts { bursts.old ≡ grader.old.machines.circuit.inputs }
     requires width { vectors.old.width ≡ grader.old.machines.circuit.inputs }
     ensures added { IfOk result (λ count. AreExtended grader.old grader.new
         vectors.old.list vectors.old vectors.new count) }
@@ -110,11 +48,11 @@ fn breed_bursts(
 {
     let mut count = 0;
     for _burst in 0..most {
-        if count == most || live.is_empty() {
+        if count == most || bursts.are_done() {
             return Ok(count);
         }
-        let left = most - count;
-        count += breed_burst(alloc, classes, grader, breeder, live, vectors, left)?;
+        let gain = bursts.burst(alloc, classes, grader, vectors, most - count)?;
+        count += gain.vectors;
     }
     Ok(count)
 }
@@ -125,23 +63,21 @@ fn apply_and_breed(
     classes: &Classes,
     start: &[Tern],
     grader: &mut ClassGrader,
-    breeder: &mut Breeder,
+    bursts: &mut Bursts,
     vectors: &mut Vectors,
     most: u32,
 ) -> Result<u32, AllocError>
     requires classes { AreClasses grader.old.machines.circuit classes.now }
     requires same { grader.old.representatives ≡ classes.now }
-    requires breeder { breeder.old ≡ grader.old.machines.circuit.inputs }
+    requires bursts { bursts.old ≡ grader.old.machines.circuit.inputs }
     requires width { vectors.old.width ≡ grader.old.machines.circuit.inputs }
     ensures added { IfOk result (λ count. AreExtended grader.old grader.new
         [] vectors.old vectors.new count) }
     ensures few { IfOk result (λ count. count ≤ most) }
 {
     grader.apply(vectors)?;
-    let mut live = all_live(alloc, classes)?;
-    let detected = take_detected(alloc, grader, classes, &mut live)?;
-    breeder.note(start, vectors, &detected)?;
-    breed_bursts(alloc, classes, grader, breeder, &mut live, vectors, most)
+    bursts.note(alloc, classes, grader, start, 0, vectors)?;
+    breed_bursts(alloc, classes, grader, bursts, vectors, most)
 }
 
 /// The given vectors, and then at most `most` vectors that are bred after them, fewer where all representatives are
@@ -169,14 +105,14 @@ pub fn bred_vectors(
 {
     let most = if circuit.inputs() == 0 { 0 } else { most };
     let mut vectors = given;
-    let mut breeder = breeder_of(alloc, circuit, faults, classes, seed)?;
+    let mut bursts = Bursts::new(alloc, circuit, faults, classes, seed)?;
     let mut grader = ClassGrader::new_from(alloc, circuit, faults, classes, start)?;
     let bred = apply_and_breed(
         alloc,
         classes,
         start,
         &mut grader,
-        &mut breeder,
+        &mut bursts,
         &mut vectors,
         most,
     );

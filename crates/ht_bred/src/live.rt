@@ -4,6 +4,7 @@ ghost use Rattle.ht_faults.specs.Classes.{AreClasses};
 ghost use Rattle.ht_proofs.specs.Detections.{place_at};
 ghost use Rattle.ht_bred.specs.Bred.{detected_of};
 
+use ht_breed::Detected;
 use ht_faults::{Classes, FaultList};
 use ht_net::{Fault, Place};
 use ht_proofs::ClassGrader;
@@ -12,8 +13,8 @@ use std::alloc::{AllocError, Global};
 /// A representative that isn't detected: the fault's number, and its number among all representatives.
 #[derive(Clone, Copy)]
 pub struct Live {
-    fault: u32,
-    rank: u32,
+    pub fault: u32,
+    pub rank: u32,
 }
 
 /// All representatives, rising.
@@ -51,21 +52,25 @@ pub fn own_faults(
     Ok(own)
 }
 
-// Whether a grader's vectors detect a representative.
-fn is_detected(grader: &ClassGrader, classes: &Classes, fault: u32) -> bool
+// The vector at which a grader's vectors detect a representative first.
+fn detected_at(grader: &ClassGrader, classes: &Classes, fault: u32) -> Option<u64>
     requires same { grader.now.representatives ≡ classes.now }
     requires classes { AreClasses grader.now.machines.circuit classes.now }
 {
     if fault >= classes.len() {
-        return false;
+        return None;
     }
     if classes.of(fault) != fault {
-        return false;
+        return None;
     }
-    grader.verdict(fault).is_some()
+    match grader.verdict(fault) {
+        Some(place) => Some(place.vector),
+        None => None,
+    }
 }
 
-/// Takes those away that a grader's vectors detect, and gives their numbers among all representatives.
+/// Takes those away that a grader's vectors detect: their numbers among all representatives, and the vectors at which, of
+/// those after the first `before`.
 ///
 /// # Errors
 /// Out of memory.
@@ -73,16 +78,20 @@ pub fn take_detected(
     alloc: Global,
     grader: &ClassGrader,
     classes: &Classes,
+    before: u64,
     live: &mut Vec<Live>,
-) -> Result<Vec<u32>, AllocError>
+) -> Result<Vec<Detected>, AllocError>
     requires same { grader.now.representatives ≡ classes.now }
     requires classes { AreClasses grader.now.machines.circuit classes.now }
 {
     let mut left = Vec::new(alloc);
     let mut detected = Vec::new(alloc);
     for one in live.iter() {
-        if is_detected(grader, classes, one.fault) {
-            detected.push(one.rank)?;
+        if let Some(vector) = detected_at(grader, classes, one.fault) {
+            detected.push(Detected {
+                fault: one.rank,
+                vector: vector.saturating_sub(before),
+            })?;
         } else {
             left.push(*one)?;
         }

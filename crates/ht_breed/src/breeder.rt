@@ -4,6 +4,7 @@ ghost use Rattle.ht_breed.specs.Bursts.{IsBurst};
 
 use crate::breeding::Breeding;
 use crate::burst::Burst;
+use crate::segments::Detected;
 use ht_net::{Circuit, Fault, Vectors};
 use ht_tern::Tern;
 use std::alloc::{AllocError, Global};
@@ -46,7 +47,8 @@ impl Breeder {
         })
     }
 
-    /// Notes vectors that were applied from a state of the flip-flops, and the faults that they detected, by number.
+    /// Notes vectors that were applied from a state of the flip-flops, and which faults they detected where. Those of them
+    /// that detected something are material for later bursts.
     ///
     /// # Errors
     /// Out of memory.
@@ -54,11 +56,12 @@ impl Breeder {
         &mut self,
         state: &[Tern],
         vectors: &Vectors,
-        detected: &[u32],
+        detected: &[Detected],
     ) -> Result<(), AllocError>
+        requires { vectors.now.width ≡ self.old }
         ensures { self.new ≡ self.old }
     {
-        self.breeding.note(state, vectors, detected)
+        self.breeding.note(state, self.width, vectors, detected)
     }
 
     /// Breeds a burst of at most `most` vectors, to be applied where the flip-flops of the good machine hold `state`.
@@ -72,17 +75,24 @@ impl Breeder {
         self.breeding.burst(state, self.width, most)
     }
 
-    /// Learns which faults the last burst detected, by number, when it was applied.
+    /// Learns which faults the last burst detected when it was applied, whatever the numbers of their vectors.
     ///
     /// # Errors
     /// Out of memory.
-    pub fn learn(&mut self, burst: Burst, detected: &[u32]) -> Result<(), AllocError>
+    pub fn learn(&mut self, burst: Burst, detected: &[Detected]) -> Result<(), AllocError>
         ensures { self.new ≡ self.old }
     {
         self.breeding.learn(burst, detected)
     }
 
-    /// The evaluations of gates so far, each for 64 candidates at once.
+    /// Leaves a fault out of account from now on, as one that was detected.
+    pub fn leave_out(&mut self, fault: u32)
+        ensures { self.new ≡ self.old }
+    {
+        self.breeding.leave_out(fault);
+    }
+
+    /// The work so far: each evaluation of a gate in a frame for 64 candidates at once, forward or back, counts 1.
     pub fn work(&self) -> u64 {
         self.breeding.work
     }

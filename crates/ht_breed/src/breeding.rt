@@ -1,5 +1,5 @@
 //! The generations of a burst, and what is learnt of it.
-ghost use Rattle.std.specs.Prelude.{IfOk, OnOk};
+ghost use Rattle.std.specs.Prelude.{◌≡◌, IfOk, OnOk};
 ghost use Rattle.ht_breed.specs.Bursts.{IsBurst};
 
 use crate::burst::Burst;
@@ -8,6 +8,7 @@ use crate::counter::lane_set;
 use crate::estimate::{Estimator, Ranked};
 use crate::hopes::{Hopes, promises};
 use crate::kept::KeptBursts;
+use crate::segments::Detected;
 use ht_net::{Circuit, Fault, Vectors};
 use ht_random::Words;
 use ht_tern::Tern;
@@ -42,7 +43,7 @@ pub struct Breeding {
     frames: usize,
     // how many bursts in a row gained nothing
     dry: u32,
-    /// The evaluations of gates so far, each for 64 candidates.
+    /// The evaluations of gates so far, each in one frame for 64 candidates.
     pub work: u64,
 }
 
@@ -79,18 +80,28 @@ impl Breeding {
         })
     }
 
-    /// Notes vectors that were applied from a state, and the faults that they detected.
+    /// Notes vectors of `width` bits that were applied from a state, and which faults they detected where.
     ///
     /// # Errors
     /// Out of memory.
     pub fn note(
         &mut self,
         state: &[Tern],
+        width: u32,
         vectors: &Vectors,
-        detected: &[u32],
-    ) -> Result<(), AllocError> {
+        detected: &[Detected],
+    ) -> Result<(), AllocError>
+        requires { vectors.now.width ≡ width }
+    {
         self.hopes.detect(detected);
+        self.kept
+            .keep_segments(self.alloc, width, vectors, detected)?;
         self.estimator.note(state, vectors)
+    }
+
+    /// Leaves a fault out of account from now on.
+    pub fn leave_out(&mut self, fault: u32) {
+        self.hopes.leave_out(fault);
     }
 
     /// Breeds a burst from a state, of at most `most` vectors of `width` bits.
@@ -106,7 +117,7 @@ impl Breeding {
         let mut candidates = Candidates::fresh(
             alloc,
             width as usize,
-            self.frames,
+            self.frames.min(most as usize),
             &mut self.words,
             &self.kept,
         )?;
@@ -182,7 +193,7 @@ impl Breeding {
     ///
     /// # Errors
     /// Out of memory.
-    pub fn learn(&mut self, burst: Burst, detected: &[u32]) -> Result<(), AllocError> {
+    pub fn learn(&mut self, burst: Burst, detected: &[Detected]) -> Result<(), AllocError> {
         let Burst {
             vectors,
             looked,

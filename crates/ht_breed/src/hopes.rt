@@ -1,5 +1,6 @@
 //! What bursts promise of faults, and how often it was false.
 use crate::paths::Paths;
+use crate::segments::Detected;
 use std::alloc::{AllocError, Global};
 
 // A fault is looked at while its false hopes are fewer, and that it is stored counts while these are.
@@ -99,12 +100,17 @@ impl Hopes {
         Ok(looked)
     }
 
+    /// Notes that a fault is detected, or is to be left out as if it were.
+    pub fn leave_out(&mut self, fault: u32) {
+        if let Some(detected) = self.detected.get_mut(fault as usize) {
+            *detected = true;
+        }
+    }
+
     /// Notes that these faults are detected.
-    pub fn detect(&mut self, faults: &[u32]) {
-        for fault in faults {
-            if let Some(detected) = self.detected.get_mut(*fault as usize) {
-                *detected = true;
-            }
+    pub fn detect(&mut self, faults: &[Detected]) {
+        for one in faults {
+            self.leave_out(one.fault);
         }
     }
 

@@ -8,7 +8,7 @@
 //! Candidates are drawn (`fresh`), and generations bred by these estimates (`children`), as in CRIS (D. G. Saab, Y. G. Saab, J. A.
 //! Abraham, 1992) and GATEST (E. M. Rudnick and others, 1994), which simulate faults for each candidate. Vectors of
 //! bursts that detected something are material for later ones (`kept`), as the stored sequences of STRATEGATE (M. S.
-//! Hsiao, E. M. Rudnick, J. H. Patel, 1997).
+//! Hsiao, E. M. Rudnick, J. H. Patel, 1997), and so are segments of any other vectors that did (`segments`).
 //!
 //! A `Breeder` gives one burst after the other, and learns what each detected. All its calls return on all arguments, and
 //! what is promised of a burst is its width and its length, and nothing of what it detects: its vectors are simulated as
@@ -31,9 +31,11 @@ mod paths;
 mod pins;
 mod plan;
 mod runs;
+mod segments;
 mod trace;
 mod unseen;
 
 pub use breeder::Breeder;
 pub use burst::Burst;
 pub use estimate::Parts;
+pub use segments::Detected;

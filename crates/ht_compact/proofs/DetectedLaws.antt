@@ -1,11 +1,12 @@
 -- Which faults a list detects, by their first detections.
-use Rattle.std.proofs.Common.{◌≡◌, ◌<◌, ◌≤◌, ◌+◌, ◌^◌, ◌++◌, ◌∷◌, [], inl, inr, ℕ, List, Bool, true, false, length, get_or, take, Option, Some, None, sym, ◌∙◌, ap, subst, arith, length-append}
+use Rattle.std.proofs.Common.{◌≡◌, ◌<◌, ◌≤◌, ◌+◌, ◌^◌, ◌++◌, ◌∷◌, [], inl, inr, ℕ, List, Bool, true, false, length, get_or, map, take, Option, Some, None, sym, ◌∙◌, ap, subst, arith, length-append}
 use Rattle.std.specs.Prelude.{is_some}
 use Rattle.std.specs.List.{All, Contains, range_with_len, slice_get}
 use Rattle.std.specs.Option.{option_map}
 use Rattle.std.proofs.lemmas.Bool.{cases_eq}
-use Rattle.std.proofs.lemmas.List.{get_or_default, take_all, take_more, map-append}
-use Rattle.std.proofs.lemmas.List.Elements.{All-push, All-weaker, filter_passes, Contains-append_left, Contains-get_or, Contains-push}
+use Rattle.std.proofs.lemmas.List.{get_or_append_left, get_or_default, get_or-map, length-map, take_all, map-append}
+use Rattle.std.proofs.Math.Seq.{get_or-append_seam}
+use Rattle.std.proofs.lemmas.List.Elements.{All-from_get_or, All-push, All-weaker, filter_passes, Contains-append_left, Contains-get_or, Contains-push}
 use Rattle.std.proofs.lemmas.Option.{slice_get-map, slice_get-get_or}
 use Rattle.ht_net.specs.declared.fault.Fault.{Fault}
 use Rattle.ht_net.specs.declared.place.Place.{Place}
@@ -18,8 +19,8 @@ use Rattle.ht_faults.proofs.OwnLaws.{own_is_fault, own_within, representative_is
 use Rattle.ht_proofs.specs.PackedView.{PackedView, GraderStandsFor, chosen_faults, verdict_at}
 use Rattle.ht_proofs.specs.Detections.{place_at, AreFirstDetections}
 use Rattle.ht_compact.specs.declared.detected.DetectedFault.{DetectedFault}
-use Rattle.ht_compact.specs.Compacts.{IsDetectedBy, IsDetectedClass, AreDetectedClasses, MissesOne}
-use Rattle.ht_compact.specs.DetectedFaults.{AreDetectedFaults, AreDetections, HasRunWanted, IsDetectedFault, fault_numbers}
+use Rattle.ht_compact.specs.Compacts.{IsDetectedBy, IsDetectedClass, AreDetectedClasses, DetectsEach, MissesOne}
+use Rattle.ht_compact.specs.DetectedFaults.{AreDetectedAt, AreDetectedBelow, AreDetectedFaults, HasRunWanted, IsDetectedFault, IsMissed, fault_numbers}
 use Rattle.ht_compact.proofs.FrontLaws.{detects_in_front, detected_in_more}
 
 -- a first detection is a detection, and where there is none the list detects nothing
@@ -112,33 +113,50 @@ detected_there c fault list n place verdict is first = record {
 }
 
 -- one fault more
-pub one_detected : (c : Netlist) (wanted : List ℕ) (list : List (List Bool)) (k : ℕ)
-    (detected more : List DetectedFault) (grader : PackedView) (place : Place) → HasRunWanted c wanted list grader
-    → grader.circuit ≡ c → grader.faults ≡ chosen_faults (faults_of c) wanted
-    → AreDetections c (take k wanted) list detected → k < length wanted → verdict_at grader k ≡ Some place
-    → more ≡ detected ++ record { fault = get_or wanted k 0; vector = place.vector } ∷ []
-    → AreDetections c (take (k + 1) wanted) list more
-one_detected c wanted list k detected more grader place run circuit faults so_far inside is pushed =
-    let fault : ℕ = get_or wanted k 0 in
-    let one : DetectedFault = record { fault = fault; vector = place.vector } in
-    subst (AreDetections c (take (k + 1) wanted) list) (sym pushed) (record {
-      faults =
-          map-append (λ (d : DetectedFault). d.fault) detected (one ∷ [])
-          ∙ (ap (λ (l : List ℕ). l ++ fault ∷ []) so_far.faults ∙ sym (take_more wanted k 0 inside));
-      each =
-          All-push (IsDetectedFault c list) detected one so_far.each
-          (detected_there c fault list run.count place (verdict_at grader k) is
-          (chosen_first c wanted (take run.count list) grader k circuit faults inside run.stands));
+pub one_detected : (c : Netlist) (wanted : List ℕ) (list : List (List Bool)) (k : ℕ) (found more : List ℕ)
+    (grader : PackedView) (place : Place) → HasRunWanted c wanted list grader → grader.circuit ≡ c
+    → grader.faults ≡ chosen_faults (faults_of c) wanted → AreDetectedBelow c list wanted found k → k < length wanted
+    → verdict_at grader k ≡ Some place → more ≡ found ++ place.vector ∷ [] → AreDetectedBelow c list wanted more (k + 1)
+one_detected c wanted list k found more grader place run circuit faults so_far inside is pushed =
+    let At : ℕ → ℕ → Type 0 = λ j v. IsDetectedFault c list (record { fault = get_or wanted j 0; vector = v }) in
+    let last : get_or (found ++ place.vector ∷ []) k 0 ≡ place.vector =
+    ap (λ (j : ℕ). get_or (found ++ place.vector ∷ []) j 0) (sym so_far.every)
+    ∙ get_or-append_seam found place.vector [] 0 in
+    let here : At k place.vector =
+    detected_there c (get_or wanted k 0) list run.count place (verdict_at grader k) is
+    (chosen_first c wanted (take run.count list) grader k circuit faults inside run.stands) in
+    subst (λ (l : List ℕ). AreDetectedBelow c list wanted l (k + 1)) (sym pushed) (record {
+      every = omega (arith, length-append found (place.vector ∷ []), so_far.every);
+      each = λ j less. elim (cases_eq j k) [
+        | inl same ↦
+            subst (λ (i : ℕ). At i (get_or (found ++ place.vector ∷ []) i 0)) (sym same) (subst (At k) (sym last) here)
+        | inr other ↦
+            let before : j < k = omega (arith, less, other) in
+            subst (At j) (sym (get_or_append_left found (place.vector ∷ []) 0 j (omega (arith, before, so_far.every))))
+            (so_far.each j before)
+      ];
     })
 
 -- a fault that the grader has missed
 pub one_missed : (c : Netlist) (wanted : List ℕ) (list : List (List Bool)) (k : ℕ) (grader : PackedView)
-    → HasRunWanted c wanted list grader → k < length wanted → verdict_at grader k ≡ None → MissesOne c wanted list
-one_missed c wanted list k grader run inside none = record {
+    → HasRunWanted c wanted list grader → k < length wanted → verdict_at grader k ≡ None → IsMissed c wanted list k
+one_missed c wanted list k grader run inside none =
+    record { inside = inside; undetected = run.missed k inside none }
+
+-- a fault that is missed is one of these
+pub misses_one : (c : Netlist) (wanted : List ℕ) (list : List (List Bool)) (k : ℕ) → IsMissed c wanted list k
+    → MissesOne c wanted list
+misses_one c wanted list k is = record {
   missed = get_or wanted k 0;
-  is_wanted = Contains-get_or wanted k 0 inside;
-  undetected = run.missed k inside none;
+  is_wanted = Contains-get_or wanted k 0 is.inside;
+  undetected = is.undetected;
 }
+
+-- what stands with a vector that detects it is detected
+pub each_detected : (c : Netlist) (list : List (List Bool)) (wanted at : List ℕ) → AreDetectedAt c list wanted at
+    → DetectsEach c wanted list
+each_detected c list wanted at are = All-from_get_or (IsDetectedBy c list) wanted 0 (λ k inside.
+    let is = are.each k inside in record { vector = get_or at k 0; output = is.output; detects = is.detects })
 
 -- ---- class by class
 
@@ -268,3 +286,22 @@ all_known c representatives list k detected so_far few = record {
       (fault_numbers detected) so_far.sound;
   few = omega (arith, few, so_far.few, so_far.some, own_within representatives);
 }
+
+-- the faults and their vectors by themselves
+pub detected_apart : (c : Netlist) (list : List (List Bool)) (detected : List DetectedFault) (wanted at : List ℕ)
+    → AreDetectedFaults c list detected → wanted ≡ fault_numbers detected
+    → at ≡ map (λ (one : DetectedFault). one.vector) detected → AreDetectedAt c list wanted at
+detected_apart c list detected wanted at are wanted_is at_is =
+    let none : DetectedFault = record { fault = 0; vector = 0 } in
+    let fault = λ (one : DetectedFault). one.fault in
+    let vector = λ (one : DetectedFault). one.vector in
+    subst (λ (l : List ℕ). AreDetectedAt c list l at) (sym wanted_is)
+    (subst (AreDetectedAt c list (fault_numbers detected)) (sym at_is) (record {
+      every = omega (arith, length-map detected vector, length-map detected fault);
+      each = λ k inside.
+          let less : k < length detected = omega (arith, inside, length-map detected fault) in
+          subst (λ (i : ℕ). IsDetectedFault c list (record { fault = i; vector = get_or (map vector detected) k 0 }))
+          (sym (get_or-map fault detected k none 0 less))
+          (subst (λ (v : ℕ). IsDetectedFault c list (record { fault = (get_or detected k none).fault; vector = v }))
+          (sym (get_or-map vector detected k none 0 less)) (are.each k none less));
+    }))

@@ -9,14 +9,14 @@ pub use Rattle.ht_entries.specs.ProofLines.{line_text}
 pub use Rattle.ht_entries.specs.declared.numbered.Numbered.{Numbered}
 pub use Rattle.ht_proofs.specs.Detections.{AreFirstDetections}
 pub use Rattle.ht_inputs.specs.Errors.{exit_status, judged_error_of}
-pub use Rattle.ht_inputs.specs.Inputs.{AcceptsInputs, HasNetlist, IsGoodNetlist, IsInput, JobBasis, MayHold, SaysBasis}
+pub use Rattle.ht_inputs.specs.Inputs.{AcceptsInputs, HasNetlist, IsGoodNetlist, IsInput, JobBasis, MayBeHeld, SaysBasis}
 pub use Rattle.ht_inputs.specs.Inputs.{WasRead}
 pub use Rattle.ht_inputs.specs.Jobs.{input_name, order_of}
-pub use Rattle.ht_inputs.specs.Judging.{AreFine, HasFront, HasLines, HasLongLine, LinesStop, ReportIsRead}
+pub use Rattle.ht_inputs.specs.Judging.{AreFine, HasFront, HasTextLines, HasLongLine, LinesStop, ReportIsRead}
 pub use Rattle.ht_inputs.specs.Judging.{StandsForFile, StandsForProofs, StandsForReport, StandsForResponses}
 pub use Rattle.ht_inputs.specs.Judging.{StandsForTests, StopsAtLine, check_basis}
 pub use Rattle.ht_inputs.specs.Reading.{EndsReading, HasReadTo, ReadStops, StopsReading, TestsStop}
-pub use Rattle.ht_inputs.specs.Refusals.{IsRefusedFor, RefusesInput, before_proofs, refused_port}
+pub use Rattle.ht_inputs.specs.Refusals.{IsRefusedFor, RefusesFile, before_proofs, refused_port}
 pub use Rattle.ht_inputs.specs.declared.run_error.RunError.{RunError}
 pub use Rattle.ht_inputs.specs.declared.run_error.RunError.TheVariants.{BadResponses, BadTests, Denied, ReadFault}
 pub use Rattle.ht_inputs.specs.declared.run_error.RunError.TheVariants.{TooManyVectors, Usage, WriteFault}

@@ -3,7 +3,7 @@ use Rattle.std.proofs.Common.{◌≡◌, ◌≤◌, ◌<◌, ◌⊎◌, Bool, tr
 use Rattle.std.specs.Prelude.{Option, Some, None}
 use Rattle.std.proofs.lemmas.Bool.{cases_lt}
 use Rattle.ht_inputs.proofs.Common.{Asked, DeskView, EndsReading, Extra, HasReadTo}
-use Rattle.ht_inputs.proofs.Common.{InPort, IsGoodNetlist, IsInput, IsRefusedFor, JobBasis, ReadFault, RefusesInput}
+use Rattle.ht_inputs.proofs.Common.{InPort, IsGoodNetlist, IsInput, IsRefusedFor, JobBasis, ReadFault, RefusesFile}
 use Rattle.ht_inputs.proofs.Common.{RunError, StopsReading, Tern, Usage, WasRead, WriteFault}
 use Rattle.ht_inputs.proofs.Common.{exit_status, input_name, one_circuit, order_of, refused_port}
 use Rattle.ht_ports.specs.declared.ports.InPort.TheVariants.{Netlist, Tests, Report, Proofs}
@@ -16,8 +16,8 @@ use Rattle.ht_words.specs.declared.job.Job.{Job}
 use Rattle.ht_words.specs.declared.job.Job.TheVariants as job
 use Rattle.ht_inputs.specs.declared.run_error.RunError.TheVariants.{BadStart, NoMemory, NoSuchFault, Refused, TooLong}
 use Rattle.ht_inputs.specs.Inputs.{AcceptsFile, AreGoodInputs, HasFault, IsListed, SaysBasis}
-use Rattle.ht_inputs.specs.Jobs.{judges, may_state_start, place_of}
-use Rattle.ht_inputs.specs.Refusals.{AreRefusedWith, FaultStops, HasNoSuchFault, HasRefusedInputs, IsAbove, IsStartOf}
+use Rattle.ht_inputs.specs.Jobs.{judges, may_state_start, turn_of}
+use Rattle.ht_inputs.specs.Refusals.{AreRefusedWith, FaultStops, HasNoSuchFault, HasRefusedInputs, IsAbove, IsStartIn}
 use Rattle.ht_inputs.specs.Refusals.{LacksFault, NamesAbove}
 use Rattle.ht_inputs.proofs.InputLaws.{good_netlist, netlist_named, say_none}
 use Rattle.ht_inputs.proofs.ReadingLaws.{lacks_there, no_room}
@@ -38,7 +38,7 @@ above_unlisted c d (Some number) faults same above listed =
     omega (arith, count, above.0, above.1, listed)
 
 -- the tests come after the netlist, and before the report, the proofs and the list of faults
-tests_later : (starts : Bool) → 0 < place_of Tests starts
+tests_later : (starts : Bool) → 0 < turn_of Tests starts
 tests_later true = omega arith
 tests_later false = omega arith
 
@@ -49,7 +49,7 @@ pub fault_ends : {asks : Asked} {basis : JobBasis} {a m : DeskView} → may_stat
     → HasReadTo asks basis 2 a m → (e : RunError) → FaultStops basis.circuit asks.numbers.fault e
     → EndsReading asks a m e
 fault_ends may h NoMemory stops = no_room h
-fault_ends may h (NoSuchFault faults) stops = lacks_there h faults (ap (place_of Tests) may) (omega arith) stops
+fault_ends may h (NoSuchFault faults) stops = lacks_there h faults (ap (turn_of Tests) may) (omega arith) stops
 fault_ends may h e stops = absurd stops
 
 -- tests, and what is read after them, are refused only where the fault is one of the circuit
@@ -107,7 +107,7 @@ unlisted_accepts j a lacks basis accepts has = lacks.unlisted tt
 -- ---- no other text is refused
 
 -- a refused text that is read before the tests is one that the desk tells
-text_at : (j : Job) (e : RunError) (a b : DeskView) (h : RefusesInput (asked_by j) e a b)
+text_at : (j : Job) (e : RunError) (a b : DeskView) (h : RefusesFile (asked_by j) e a b)
     (lacks : HasNoSuchFault (asked_by j) a) → order_of (asked_by j) h.port < order_of (asked_by j) Tests
     → IsRefusedFor (asked_by j) h.basis e (lacks.texts h.port)
 text_at j e a b h lacks early =
@@ -115,7 +115,7 @@ text_at j e a b h lacks early =
 
 -- a start that the desk tells isn't refused
 not_malformed : (start : Option (List ℕ)) (name : List ℕ) (texts : InPort → List ℕ) (c d : net.Netlist)
-    (values : List Tern) (line : ℕ) → start ≡ Some name → c ≡ d → IsStartOf start c texts values
+    (values : List Tern) (line : ℕ) → start ≡ Some name → c ≡ d → IsStartIn start c texts values
     → ¬ IsMalformedStart (length d.dffs) (texts Extra) line
 not_malformed (Some n) name texts c d values line reads same is bad =
     (start_or_malformed (length c.dffs) (texts Extra)).never_both values line is
@@ -143,7 +143,7 @@ respond_refused netlist tests out number start a b e Extra name basis lacks read
 respond_refused netlist tests out number start a b e port name basis lacks reads early at same wrong =
     omega (arith, early)
 
-no_refusal : (j : Job) (a b : DeskView) (e : RunError) → RefusesInput (asked_by j) e a b
+no_refusal : (j : Job) (a b : DeskView) (e : RunError) → RefusesFile (asked_by j) e a b
     → ¬ HasNoSuchFault (asked_by j) a
 no_refusal (job.Respond netlist tests out number start) a b e h lacks =
     let asks = asked_by (job.Respond netlist tests out number start) in

@@ -15,7 +15,7 @@ use Rattle.ht_texts.proofs.ReaderLaws.{lines_few}
 use Rattle.ht_texts.proofs.StartLaws.{start_or_malformed}
 use Rattle.ht_texts.proofs.TestLaws.{never_both, one_list}
 use Rattle.ht_faults.proofs.ClassLaws.{one_list as one_classes}
-use Rattle.ht_asked.specs.Asked.{Kind, compact}
+use Rattle.ht_asked.specs.Table.{Kind, compact}
 use Rattle.ht_compact.specs.TestsToCompact.{HasTooManyVectors, IsMalformedEarly}
 use Rattle.ht_compact.proofs.FirstVectorLaws.{few_or_many, malformed_or_many}
 use Rattle.ht_dictionary.proofs.ResponseLaws.{never_both as never_responses}
@@ -29,10 +29,10 @@ use Rattle.ht_words.specs.declared.job.Job.TheVariants as job
 use Rattle.ht_words.specs.declared.job.RunFiles.{RunFiles}
 use Rattle.ht_inputs.proofs.ReadingLaws.{order_differs, same_or_other}
 use Rattle.ht_inputs.specs.declared.run_error.RunError.TheVariants.{TooLong, Refused, BadFaults, BadStart}
-use Rattle.ht_inputs.specs.Refusals.{AreDenied, AreRefusedWith, AreValidFor, HasCircuit, IsRefusedText, IsStartOf}
+use Rattle.ht_inputs.specs.Refusals.{AreDenied, AreRefusedWith, AreValidFor, HasCircuit, IsRefusedText, IsStartIn}
 use Rattle.ht_inputs.specs.Refusals.{IsWrongTest, JustifyReport, trouble_port}
 use Rattle.ht_inputs.specs.Inputs.{HasFault, IsStated, SaysCircuit, SaysExtra, SaysVectors}
-use Rattle.ht_inputs.specs.Jobs.{judges, may_state_start, place_of, start_name, takes_few}
+use Rattle.ht_inputs.specs.Jobs.{judges, may_state_start, turn_of, start_name, takes_few}
 
 -- the texts of the job's files before this place say the basis
 abbrev pub SayTo : Asked → JobBasis → ℕ → (InPort → List ℕ) → Type 0
@@ -59,7 +59,7 @@ vectors_said true basis text says = says.vectors
 vectors_said false basis text says = says
 
 -- the netlist is read first
-pub netlist_first : (starts : Bool) (port : InPort) → IsText port → place_of Netlist starts < place_of port starts
+pub netlist_first : (starts : Bool) (port : InPort) → IsText port → turn_of Netlist starts < turn_of port starts
 netlist_first true Extra is = omega arith
 netlist_first false Extra is = omega arith
 netlist_first true Tests is = omega arith
@@ -211,8 +211,8 @@ never a text b basis Faults e is at same good lists wrong says = let other = por
 -- ---- refused texts among those that say a basis
 
 -- tests are read before responses
-tests_before : (starts : Bool) → starts ≡ false → (0 < place_of Tests starts) ×
-    (place_of Tests starts < place_of Extra starts)
+tests_before : (starts : Bool) → starts ≡ false → (0 < turn_of Tests starts) ×
+    (turn_of Tests starts < turn_of Extra starts)
 tests_before true may = cc
 tests_before false may = (omega arith, omega arith)
 
@@ -247,27 +247,27 @@ module _ (texts : InPort → List ℕ) (basis : JobBasis) where
   -- the start of the basis is that of the texts
   pub start_of : (name : Option (List ℕ)) → (name ≡ None → basis.content.start ≡ unknown_state basis.circuit)
       → ((n : List ℕ) → name ≡ Some n → IsStartText (length basis.circuit.dffs) (texts Extra) basis.content.start)
-      → IsStartOf name basis.circuit texts basis.content.start
+      → IsStartIn name basis.circuit texts basis.content.start
   start_of (Some n) stated says = says n refl
   start_of None stated says = stated refl
 
   -- and no other is
-  one_start : (name : Option (List ℕ)) (start : List Tern) → IsStartOf name basis.circuit texts start
-      → IsStartOf name basis.circuit texts basis.content.start → start ≡ basis.content.start
+  one_start : (name : Option (List ℕ)) (start : List Tern) → IsStartIn name basis.circuit texts start
+      → IsStartIn name basis.circuit texts basis.content.start → start ≡ basis.content.start
   one_start (Some n) start a b =
       (start_or_malformed (length basis.circuit.dffs) (texts Extra)).one_value start basis.content.start a b
   one_start None start a b = a ∙ sym b
 
   -- files that are denied for a circuit, classes and a start that the texts say are denied for those of the basis
   denied_here : (a : Asked) → SaysCircuit true basis (texts Netlist)
-      → IsStartOf (start_name a) basis.circuit texts basis.content.start → AreDenied a texts
+      → IsStartIn (start_name a) basis.circuit texts basis.content.start → AreDenied a texts
       → ¬ AreValidFor a.command a.numbers.budget texts basis.circuit basis.representatives basis.content.start
   denied_here a named stated denied valid =
       let (c, circuit, (representatives, start, classes, is, none)) = denied in
       let AreSo : net.Netlist → List ℕ → List Tern → Type 0 = AreValidFor a.command a.numbers.budget texts in
       let same : c ≡ basis.circuit = one_circuit (texts Netlist) c basis.circuit circuit.stands named.0.stands in
       let from : start ≡ basis.content.start = one_start (start_name a) start
-      (subst (λ (c : net.Netlist). IsStartOf (start_name a) c texts start) same is) stated in
+      (subst (λ (c : net.Netlist). IsStartIn (start_name a) c texts start) same is) stated in
       let list : representatives ≡ basis.representatives =
       one_classes basis.circuit representatives basis.representatives
       (subst (λ (c : net.Netlist). AreClasses c representatives) same classes) named.1 in
@@ -277,7 +277,7 @@ module _ (texts : InPort → List ℕ) (basis : JobBasis) where
 
   -- those of the basis are denied, if they aren't valid
   is_denied : (a : Asked) → SaysCircuit true basis (texts Netlist)
-      → IsStartOf (start_name a) basis.circuit texts basis.content.start
+      → IsStartIn (start_name a) basis.circuit texts basis.content.start
       → ¬ AreValidFor a.command a.numbers.budget texts basis.circuit basis.representatives basis.content.start
       → AreDenied a texts
   is_denied a good from none =
@@ -587,7 +587,7 @@ module _ (j : Job) (texts : InPort → List ℕ) where
   denied_text a q n s t is judged may unlisted x reads y = x.0 ∙ by y.error y.at y.refused ∙ sym y.status_is
     where
       stated : (name : Option (List ℕ)) (m : List ℕ) (c d : net.Netlist) (start : List Tern) (line : ℕ) → c ≡ d
-          → name ≡ Some m → IsStartOf name c texts start → ¬ IsMalformedStart (length d.dffs) (texts Extra) line
+          → name ≡ Some m → IsStartIn name c texts start → ¬ IsMalformedStart (length d.dffs) (texts Extra) line
       stated None m c d start line same named begins wrong = cc
       stated (Some k) m c d start line same named begins wrong =
           (start_or_malformed (length c.dffs) (texts Extra)).never_both start line begins

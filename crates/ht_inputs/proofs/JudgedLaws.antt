@@ -6,8 +6,8 @@ use Rattle.std.proofs.lemmas.Bool.Decides.{nat_tests}
 use Rattle.std.proofs.lemmas.Grind.{common_steps}
 use Rattle.std.proofs.lemmas.List.{length-append, length-take-le, take-append-le}
 use Rattle.std.proofs.Math.Seq.{take-append_seam, get_or-append_seam}
-use Rattle.ht_inputs.proofs.Common.{AreFine, DeskView, HasFront, HasLines, InCall, InPort, IsInput, IsTooLongLine}
-use Rattle.ht_inputs.proofs.Common.{LinesSoFar, LinesStop, MayHold, ReadFault, RunError, StandsForFile, StopsAtLine}
+use Rattle.ht_inputs.proofs.Common.{AreFine, DeskView, HasFront, HasTextLines, InCall, InPort, IsInput, IsTooLongLine}
+use Rattle.ht_inputs.proofs.Common.{LinesSoFar, LinesStop, MayBeHeld, ReadFault, RunError, StandsForFile, StopsAtLine}
 use Rattle.ht_inputs.proofs.Common.{WasRead, lines_of, max_text_bytes, rest_of, without_cr}
 use Rattle.ht_ports.specs.Desk.{Reads}
 use Rattle.ht_ports.specs.Lines.{LinesView, Gives, GivesNone}
@@ -117,7 +117,7 @@ front_given text passed lines left so fits = record {
 }
 
 -- all lines are a front
-pub whole_front : (lines : List (List ℕ)) (text : List ℕ) → HasLines lines text → HasFront lines text
+pub whole_front : (lines : List (List ℕ)) (text : List ℕ) → HasTextLines lines text → HasFront lines text
 whole_front lines text has = record {
   more = [];
   lines_are = has.lines_are ∙ sym (append-nil lines);
@@ -172,7 +172,7 @@ module _ {Stands : List (List ℕ) → Type 0} {IsWrong : List (List ℕ) → Li
     }
 
     -- a judge that doesn't take the line
-    pub stops_judged : (error_at : ℕ → RunError) (longest : ℕ) {most : ℕ} {e : RunError} → MayHold first name
+    pub stops_judged : (error_at : ℕ → RunError) (longest : ℕ) {most : ℕ} {e : RunError} → MayBeHeld first name
         → length t.lines < most → (e ≡ NoMemory) ⊎ IsWrong t.lines line e
         → LinesStop IsWrong error_at longest most port name first b e
     stops_judged error_at longest there upto (inl none) = inr (inl none)
@@ -192,7 +192,7 @@ module _ {Stands : List (List ℕ) → Type 0} {IsWrong : List (List ℕ) → Li
 
   -- the file is at its end
   pub takes_all : (most : ℕ) → GivesNone old new a b → old.lines_read ≤ old.bytes_read → old.bytes_read ≤ max_text_bytes
-      → length t.lines ≤ most → MayHold first name → StandsForFile Stands IsWrong most port name first
+      → length t.lines ≤ most → MayBeHeld first name → StandsForFile Stands IsWrong most port name first
   takes_all most none below fits upto there = record {
     lines = t.lines;
     stands = t.stands;
@@ -204,7 +204,7 @@ module _ {Stands : List (List ℕ) → Type 0} {IsWrong : List (List ℕ) → Li
     whole = λ fewer. whole;
   }
     where
-      whole : WasRead port name (HasLines t.lines) first
+      whole : WasRead port name (HasTextLines t.lines) first
       whole = record {
         there = there;
         told = λ text input.
@@ -219,7 +219,7 @@ module _ {Stands : List (List ℕ) → Type 0} {IsWrong : List (List ℕ) → Li
 pub takes_enough : {Stands : List (List ℕ) → Type 0} {IsWrong : List (List ℕ) → List ℕ → RunError → Type 0}
     {port : InPort} {name : List ℕ} {first a : DeskView} {old : LinesView} (most : ℕ)
     → Takes Stands IsWrong port name first a old → old.lines_read ≤ old.bytes_read → old.bytes_read ≤ max_text_bytes
-    → old.lines_read ≡ most → MayHold first name → StandsForFile Stands IsWrong most port name first
+    → old.lines_read ≡ most → MayBeHeld first name → StandsForFile Stands IsWrong most port name first
 takes_enough {old = old} most t below fits all there = record {
   lines = t.lines;
   stands = t.stands;
@@ -239,7 +239,7 @@ takes_enough {old = old} most t below fits all there = record {
 -- if the line after those that a judge took is too long, the file stops at it
 pub stops_at_long : {Stands : List (List ℕ) → Type 0} {IsWrong : List (List ℕ) → List ℕ → RunError → Type 0}
     {port : InPort} {name : List ℕ} {first a : DeskView} {old : LinesView} (longest : ℕ) {most : ℕ} (line : ℕ)
-    → Takes Stands IsWrong port name first a old → MayHold first name → line ≡ old.lines_read + 1
+    → Takes Stands IsWrong port name first a old → MayBeHeld first name → line ≡ old.lines_read + 1
     → old.lines_read < most → old.bytes_read ≤ max_text_bytes
     → ((rest : List ℕ) → rest_of old a ≡ Some rest → IsTooLongLine longest old.bytes_read rest)
     → StopsAtLong IsWrong longest most line port name first
@@ -269,7 +269,7 @@ stops_at_long {old = old} longest line t there is upto fits long = record {
 -- a file is read whole, unless it has too many lines
 pub whole_file : {Stands : List (List ℕ) → Type 0} {IsWrong : List (List ℕ) → List ℕ → RunError → Type 0}
     {port : InPort} {name : List ℕ} {a : DeskView} (read : StandsForFile Stands IsWrong (2 ^ 64 - 1) port name a)
-    → WasRead port name (HasLines read.lines) a
+    → WasRead port name (HasTextLines read.lines) a
 whole_file read = read.whole (omega (arith, read.fits))
 
 -- what holds of each way in which it stops

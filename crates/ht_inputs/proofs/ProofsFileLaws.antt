@@ -4,7 +4,7 @@ use Rattle.std.specs.List.{All}
 use Rattle.std.proofs.lemmas.List.{length-append}
 use Rattle.std.proofs.Math.Seq.{get_or-append_seam}
 use Rattle.std.specs.Prelude.{Result}
-use Rattle.ht_inputs.proofs.Common.{Asked, AreFine, Content, Denied, DeskView, HasFront, HasLines, HasLongLine}
+use Rattle.ht_inputs.proofs.Common.{Asked, AreFine, Content, Denied, DeskView, HasFront, HasTextLines, HasLongLine}
 use Rattle.ht_inputs.proofs.Common.{JobBasis, JudgeError, LinesStop, Numbered, ReadStops, RunError, StandsForFile}
 use Rattle.ht_inputs.proofs.Common.{StandsForProofs, StopsAtLine, WasRead, before_proofs}
 use Rattle.ht_inputs.proofs.Common.{judged_error_of, line_text, lines_of, max_text_bytes, refused_port}
@@ -67,7 +67,8 @@ none_wrong true v content before line number j wrong =
     let said : Content = record content { saids = v.saids; entries = closed_of j.at } in
     none_ends_wrong (IsEvidence v.circuit v.representatives content.start content.list content.budget) before line
     number j.at j.stands.read
-    (backings_are_evidence v.circuit v.representatives said (closed_of j.at) j.justified.agrees j.justified.backed) wrong
+    (backings_are_evidence v.circuit v.representatives said (closed_of j.at) j.justified.agrees j.justified.backed)
+    wrong
 
 -- the lines for which a judge stands begin proofs
 pub reads_to : (follows : Bool) (v : ProofJudgeView) (content : Content) (lines : List (List ℕ))
@@ -201,7 +202,7 @@ module _ (basis : JobBasis) (text : List ℕ) where
 
   -- the proofs end before they are whole
   pub first_missing : (lines : List (List ℕ)) (number : ℕ) → AreFine (IsWrongInProofs basis) lines
-      → HasLines lines text → number ≡ length lines + 1 → ¬ AreProofLines lines
+      → HasTextLines lines text → number ≡ length lines + 1 → ¬ AreProofLines lines
       → IsFirstProofLine (IsTroubleIn basis) text number
   first_missing lines number fine has is none = first_malformed lines number fine (whole_front lines text has) is
       (inr (inl (record {
@@ -290,7 +291,7 @@ module _ (name : List ℕ) (basis : JobBasis) (a b : DeskView) where
 entries_are_read : (c : Netlist) (representatives : List ℕ) (content : Content) (lines : List (List ℕ))
     (format : Format) (name : List ℕ) (a : DeskView) → IsJustified c representatives content
     → AreEntryTexts format content.entries → lines ≡ map line_text (proof_lines format content.entries)
-    → WasRead in_port.Proofs name (HasLines lines) a → ProofsAreRead c representatives content name a
+    → WasRead in_port.Proofs name (HasTextLines lines) a → ProofsAreRead c representatives content name a
 entries_are_read c representatives content lines format name a justified are lines_are file = record {
   justified = justified;
   read = read_so (AreGoodProofs c representatives content) (λ text has. record {
@@ -302,7 +303,8 @@ entries_are_read c representatives content lines format name a justified are lin
 -- complete proofs of what is said, which agrees with the tests, are read, with some entries
 pub claimed_are_read : (c : Netlist) (representatives : List ℕ) (content : Content) (lines : List (List ℕ))
     (name : List ℕ) (a : DeskView) → AgreeWithTests c representatives content
-    → AreCompleteProofs c representatives (before_proofs content) lines → WasRead in_port.Proofs name (HasLines lines) a
+    → AreCompleteProofs c representatives (before_proofs content) lines → WasRead in_port.Proofs name
+    (HasTextLines lines) a
     → (entries : List Numbered) × ProofsAreRead c representatives (record content { entries = entries }) name a
 claimed_are_read c representatives content lines name a agrees is file =
     let whole : Content = record content { entries = is.entries } in
@@ -317,7 +319,7 @@ claimed_are_read c representatives content lines name a agrees is file =
 pub followed_are_read : (c : Netlist) (representatives : List ℕ) (content : Content) (claims : Claims)
     (lines : List (List ℕ)) (name : List ℕ) (a : DeskView) → claims.budget ≡ content.budget
     → AreJustifyingProofs c representatives (record (before_proofs content) { saids = claims.saids.items }) lines
-    → WasRead in_port.Proofs name (HasLines lines) a → VerdictsAreRead c representatives content name a claims
+    → WasRead in_port.Proofs name (HasTextLines lines) a → VerdictsAreRead c representatives content name a claims
 followed_are_read c representatives content claims lines name a budget is file = record {
   budget = budget;
   each = is.each;

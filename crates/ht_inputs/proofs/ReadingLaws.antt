@@ -4,7 +4,7 @@ use Rattle.std.specs.Prelude.{IsSome, is_some, Option, Some, None}
 use Rattle.std.proofs.lemmas.Bool.{cases_lt}
 use Rattle.ht_inputs.proofs.Common.{AcceptsInputs, Asked, BadTests, DeskView, EndsReading, Extra, HasNetlist}
 use Rattle.ht_inputs.proofs.Common.{HasReadTo, InCall, InPort, IsMalformedTest, IsRefusedFor, JobBasis, ReadFault}
-use Rattle.ht_inputs.proofs.Common.{ReadStops, RefusesInput, RunError, SaysBasis, StopsReading, Tern, TestsStop}
+use Rattle.ht_inputs.proofs.Common.{ReadStops, RefusesFile, RunError, SaysBasis, StopsReading, Tern, TestsStop}
 use Rattle.ht_inputs.proofs.Common.{Usage, WasRead, WriteFault, after_trans, input_name, order_of, refused_port}
 use Rattle.ht_ports.specs.declared.ports.InPort.TheVariants.{Netlist, Tests, Report, Proofs, Faults}
 use Rattle.ht_net.specs.Circuit.Netlist as net
@@ -13,7 +13,7 @@ use Rattle.ht_inputs.specs.Reading.{LacksMemory, OnlyReads}
 use Rattle.ht_net.specs.Detect.Detection.{IsStart, unknown_state}
 use Rattle.ht_inputs.specs.Inputs.{AreVectorsOf, HasFault, IsStated, IsUnread}
 use Rattle.ht_inputs.specs.Refusals.{NamesAbove}
-use Rattle.ht_inputs.specs.Jobs.{may_state_start, place_of}
+use Rattle.ht_inputs.specs.Jobs.{may_state_start, turn_of}
 
 -- ---- ports
 
@@ -28,7 +28,7 @@ same_or_other Extra Extra = inl refl
 same_or_other p q = inr (λ e. cc)
 
 -- two ports have two places, whether a start is read or not
-place_differs : (is_start : Bool) (p q : InPort) → p ≢ q → place_of p is_start ≢ place_of q is_start
+place_differs : (is_start : Bool) (p q : InPort) → p ≢ q → turn_of p is_start ≢ turn_of q is_start
 place_differs is_start Netlist Netlist ne e = absurd (ne refl)
 place_differs is_start Tests Tests ne e = absurd (ne refl)
 place_differs is_start Report Report ne e = absurd (ne refl)
@@ -194,7 +194,7 @@ module _ {job : Asked} {basis : JobBasis} {place : ℕ} {a m : DeskView} (h : Ha
 
     refuses : (order_of job Tests ≤ order_of job port → HasFault job basis.circuit) → (e : RunError)
         → (refused_port job e ≡ Some port) × WasRead port name (IsRefusedFor job basis e) m
-        → RefusesInput job e a b
+        → RefusesFile job e a b
     refuses fault e refused = record {
       basis = basis;
       port = port;

@@ -3,7 +3,7 @@ use Rattle.std.proofs.Common.{◌≡◌, ◌≢◌, ◌⊎◌, inl, inr, ℕ, �
 use Rattle.std.specs.Prelude.{Some}
 use Rattle.std.proofs.lemmas.Bool.{cases_lt}
 use Rattle.ht_inputs.proofs.Common.{AcceptsInputs, DeskView, InPort, IsInput, JobBasis}
-use Rattle.ht_inputs.proofs.Common.{ReadFault, RefusesInput, RunError, StopsReading, Usage, WriteFault, exit_status}
+use Rattle.ht_inputs.proofs.Common.{ReadFault, RefusesFile, RunError, StopsReading, Usage, WriteFault, exit_status}
 use Rattle.ht_inputs.proofs.Common.{input_name, order_of}
 use Rattle.ht_ports.specs.Causes.{Rose}
 use Rattle.ht_words.specs.Jobs.{asked_by}
@@ -20,7 +20,7 @@ use Rattle.ht_inputs.proofs.InputLaws.{IsRefusedBy, one_status, refused_with, sa
 
 -- a job that refuses a text among those that the desk tells
 refused_among : (j : Job) (e : RunError) (a b : DeskView) (texts : InPort → List ℕ)
-    (h : RefusesInput (asked_by j) e a b)
+    (h : RefusesFile (asked_by j) e a b)
     → ((p : InPort) (name : List ℕ) → order_of (asked_by j) p ≤ order_of (asked_by j) h.port
     → input_name (asked_by j) p ≡ Some name → IsInput p name (texts p) a)
     → IsRefusedBy (asked_by j) texts (exit_status e)
@@ -41,7 +41,7 @@ module _ (j : Job) (status : ℕ) (a : DeskView) (refused : HasRefusedInputs (as
       refused.refused (λ p name less is. (accepts.each p name is).told (refused.texts p)
       (refused.told p name (omega (arith, less)) is))
 
-  refusal_status : (b : DeskView) (e : RunError) → RefusesInput (asked_by j) e a b → exit_status e ≡ status
+  refusal_status : (b : DeskView) (e : RunError) → RefusesFile (asked_by j) e a b → exit_status e ≡ status
   refusal_status b e h = elim (cases_lt (order_of (asked_by j) refused.port) (order_of (asked_by j) h.port)) [
     | inl later ↦ absurd (say_none j refused.texts refused.port refused.name status h.basis h.stated
         refused.reads refused.refused
@@ -66,7 +66,7 @@ module _ (j : Job) (status : ℕ) (a : DeskView) (refused : HasRefusedInputs (as
 -- ---- good inputs
 
 -- they aren't refused
-good_refused : (j : Job) (a b : DeskView) (e : RunError) → RefusesInput (asked_by j) e a b
+good_refused : (j : Job) (a b : DeskView) (e : RunError) → RefusesFile (asked_by j) e a b
     → ¬ AreGoodInputs (asked_by j) a
 good_refused j a b e h are =
     let (port, name, reads, refused) = refused_among j e a b are.texts h (λ p name within is. are.told p name is) in

@@ -4,7 +4,7 @@ use Rattle.std.specs.Prelude.{None, if◌then◌else◌}
 use Rattle.std.proofs.lemmas.Bool.{cases_lt}
 use Rattle.std.proofs.lemmas.List.{length-append}
 use Rattle.std.proofs.Math.Seq.{get_or-append_seam}
-use Rattle.ht_inputs.proofs.Common.{AreClasses, AreFine, Denied, DeskView, HasFront, HasLines, HasLongLine, IsFirst}
+use Rattle.ht_inputs.proofs.Common.{AreClasses, AreFine, Denied, DeskView, HasFront, HasTextLines, HasLongLine, IsFirst}
 use Rattle.ht_inputs.proofs.Common.{IsRefusedFor, JobBasis, JudgeError, LinesStop, ReadStops, ReportIsRead, RunError}
 use Rattle.ht_inputs.proofs.Common.{Said, StandsForFile, StandsForReport, StopsAtLine, Tern, WasRead, Asked}
 use Rattle.ht_inputs.specs.Jobs.{judges}
@@ -178,7 +178,7 @@ module _ (basis : JobBasis) (text : List ℕ) (is : IsCircuit basis.circuit) whe
 
   -- the report ends before it is whole
   pub first_missing : (lines : List (List ℕ)) (number : ℕ) → AreFine (IsWrongInReport basis) lines
-      → HasLines lines text → number ≡ length lines + 1
+      → HasTextLines lines text → number ≡ length lines + 1
       → ((budget : ℕ) (saids : List Said) → ¬ IsSearchReport basis.circuit basis.representatives lines budget saids)
       → IsFirst IsTrouble number
   first_missing lines number fine has is_number none =
@@ -223,7 +223,7 @@ module _ (job : Asked) (judged : judges job.command ≡ true) (name : List ℕ) 
     report_ends {v = v} read (judge.Denied (Report number)) h =
         let none = same_circuit (λ c r. (budget : ℕ) (saids : List Said) → ¬ IsSearchReport c r read.lines budget saids)
         read.stands.circuit read.stands.representatives h.1 in
-        refuses number (HasLines read.lines)
+        refuses number (HasTextLines read.lines)
         (λ text has. first_missing basis text is read.lines number read.fine has h.0 none) (whole_file read)
     report_ends read (judge.Denied trouble) h = absurd h
     report_ends read judge.NoMemory h = tt

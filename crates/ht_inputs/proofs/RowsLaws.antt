@@ -5,7 +5,7 @@ use Rattle.std.proofs.lemmas.Bool.{cases_lt}
 use Rattle.std.proofs.lemmas.List.{length-append, length-map, length-take-le}
 use Rattle.std.proofs.Math.ListN.{replicate, length-replicate}
 use Rattle.std.proofs.Math.Seq.{take-append_seam}
-use Rattle.ht_inputs.proofs.Common.{AreFine, BadResponses, BadTests, DeskView, HasFront, HasLines, HasLongLine}
+use Rattle.ht_inputs.proofs.Common.{AreFine, BadResponses, BadTests, DeskView, HasFront, HasTextLines, HasLongLine}
 use Rattle.ht_inputs.proofs.Common.{IsMalformedResponse, IsMalformedTest, JobBasis, LinesStop}
 use Rattle.ht_inputs.proofs.Common.{ObservationView, ReadStops, Rows, RunError, StandsForFile, StandsForResponses}
 use Rattle.ht_inputs.proofs.Common.{Asked, StandsForTests, Tern, TestsStop, WasRead, lines_of, refused_port, row_text}
@@ -197,7 +197,7 @@ module _ (basis : JobBasis) (text : List ℕ) (before : List (List ℕ)) (fine :
   ])
 
   -- if fine lines end before there is a row for each vector, the line after them is the first malformed one
-  pub missing_row : HasLines before text → length before < length basis.content.list → IsBadAt (length before + 1)
+  pub missing_row : HasTextLines before text → length before < length basis.content.list → IsBadAt (length before + 1)
   missing_row has fewer = bad_at (whole_front before text has) (inr (inl (record {
     missing = omega (arith, ap length has.lines_are);
     awaited = omega (arith, fewer);
@@ -236,7 +236,8 @@ module _ (job : Asked) (states_none : may_state_start job ≡ false) (name : Lis
         subst (λ (n : ℕ). Stops (BadResponses (n + 1))) count (
           refuses_rows (length read.lines + 1),
           read_so _
-              (λ text has. missing_row basis text read.lines read.fine has (omega (arith, count, fewer))) (whole_file read),
+              (λ text has. missing_row basis text read.lines read.fine has (omega (arith, count, fewer)))
+              (whole_file read),
         )
 
 -- a basis for so many values in each row, and so many vectors

@@ -5,7 +5,7 @@ use Rattle.std.specs.declared.alloc.Global.{Global}
 use Rattle.std.proofs.lemmas.Bool.{cases_eq, cases_lt}
 use Rattle.std.proofs.lemmas.Bool.Decides.{nat_tests}
 use Rattle.std.proofs.lemmas.List.{length-take-le}
-use Rattle.ht_inputs.proofs.Common.{AreFine, Asked, DeskView, EndsReading, Extra, HasFront, HasLines, HasLongLine}
+use Rattle.ht_inputs.proofs.Common.{AreFine, Asked, DeskView, EndsReading, Extra, HasFront, HasTextLines, HasLongLine}
 use Rattle.ht_inputs.proofs.Common.{HasReadTo, InCall, IsTooLong, JobBasis, LinesStop, ReadStops, RunError, SaysBasis}
 use Rattle.ht_inputs.proofs.Common.{Tern, WasRead, input_name, lines_of, max_text_bytes, order_of}
 use Rattle.ht_inputs.proofs.Common.{refused_port, without_cr}
@@ -20,7 +20,7 @@ use Rattle.ht_texts.specs.StartTexts.{IsMalformedStart, IsStartLine, IsStartText
 use Rattle.ht_texts.proofs.LfLaws.{lf_count-cons}
 use Rattle.ht_texts.proofs.StartLaws.{other_length_no_start, start_or_none}
 use Rattle.ht_inputs.specs.declared.run_error.RunError.TheVariants.{BadStart}
-use Rattle.ht_inputs.specs.Jobs.{may_state_start, place_of}
+use Rattle.ht_inputs.specs.Jobs.{may_state_start, turn_of}
 use Rattle.ht_inputs.specs.Judging.{StandsForStart}
 use Rattle.ht_inputs.proofs.FirstTroubleLaws.{front_is, shorter}
 use Rattle.ht_inputs.proofs.JudgedLaws.{get_front, lines_stop}
@@ -157,7 +157,7 @@ module _ (job : Asked) (may : may_state_start job ≡ true) (basis : JobBasis) (
       )) stops
 
   -- they end without one
-  pub start_ends : (lines : List (List ℕ)) → WasRead Extra name (HasLines lines) a
+  pub start_ends : (lines : List (List ℕ)) → WasRead Extra name (HasTextLines lines) a
       → ((start : List Tern) → ¬ IsStartLine (length basis.circuit.dffs) (get_or lines 0 []) start) → Stops (BadStart 1)
   start_ends lines read none = (
     refuses_start job may 1,
@@ -183,7 +183,7 @@ none_of basis lines start stands is = rw is at stands.line
 
 -- they have it
 pub start_read : (width : ℕ) (start : List Tern) (lines : List (List ℕ)) (name : List ℕ) (a : DeskView)
-    → WasRead Extra name (HasLines lines) a → IsStartLine width (get_or lines 0 []) start → length lines ≤ 1
+    → WasRead Extra name (HasTextLines lines) a → IsStartLine width (get_or lines 0 []) start → length lines ≤ 1
     → WasRead Extra name (λ text. IsStartText width text start) a
 start_read width start lines name a read is only = read_so _ (λ text has. record {
   line = subst (λ (l : List (List ℕ)). IsStartLine width (get_or l 0 []) start) (sym has.lines_are) is;
@@ -193,7 +193,7 @@ start_read width start lines name a read is only = read_so _ (λ text has. recor
 -- ---- the step after the netlist
 
 at_one : (job : Asked) → may_state_start job ≡ true → order_of job Extra ≡ 1
-at_one job may = ap (place_of Extra) may
+at_one job may = ap (turn_of Extra) may
 
 module _ {job : Asked} {basis : JobBasis} {first old new : DeskView} (may : may_state_start job ≡ true) {name : List ℕ}
     (reads : input_name job Extra ≡ Some name) (before : HasReadTo job basis 1 first old) (call : InCall Extra old new)
@@ -215,4 +215,4 @@ module _ {job : Asked} {basis : JobBasis} {first old new : DeskView} (may : may_
         → IfErr result (EndsReading job first new)
     step_stops (Ok start) stops = tt
     step_stops (Err e) stops = stops_there before (at_one job may) reads call
-        (λ late. absurd (omega (arith, late, ap (place_of Tests) may, at_one job may))) e stops
+        (λ late. absurd (omega (arith, late, ap (turn_of Tests) may, at_one job may))) e stops

@@ -35,7 +35,8 @@ denied_tests (BadTests line) = Denied (trouble.Tests line)
 denied_tests error = error
 
 -- The tests of this name were read, and their vectors detect each representative at these places first, from the start.
-pub record TestsDetect (c : net.Netlist) (representatives : List ℕ) (start : List Tern) (name : List ℕ)
+pub record TestsDetect (c : net.Netlist) (representatives : List ℕ) (start : List Tern)
+    (name : List ℕ)
     (old : DeskView) (places : List (Option Place)) : Type 0 where
   pub list : List (List Bool)
   pub few : length list ≤ max_text_bytes
@@ -54,7 +55,8 @@ pub record JudgesFiles (job : Asked) (files : RunFiles) (start : Option (List �
   pub fault : (c : net.Netlist) → HasFault job c
   pub circuit : (basis : JobBasis) (text : List ℕ) → IsGoodNetlist text basis.circuit
       → AreClasses basis.circuit basis.representatives → SaysBasis job basis Netlist text
-  pub vectors : (basis : JobBasis) (text : List ℕ) → IsTestText basis.circuit text basis.content.list
+  pub vectors : (basis : JobBasis) (text : List ℕ)
+      → IsTestText basis.circuit text basis.content.list
       → SaysBasis job basis Tests text
 
 -- The faults, the classes and the start are the circuit's, and there is a place or none for each fault.
@@ -71,7 +73,8 @@ HasDetections graded start list =
     AreFirstDetections graded.circuit graded.listed.classes start list graded.places.items
 
 -- The netlist, the start and the tests were read, of whatever job, and say this.
-pub record IsGraded (files : RunFiles) (start : Option (List ℕ)) (old new : DeskView) (graded : Graded) : Type 0 where
+pub record IsGraded (files : RunFiles) (start : Option (List ℕ)) (old new : DeskView)
+    (graded : Graded) : Type 0 where
   pub list : List (List Bool)
   pub netlist : HasNetlist graded.circuit
   pub of_circuit : IsOfCircuit graded

@@ -19,7 +19,8 @@ use Rattle.ht_dictionary.specs.ResponseTexts.{IsResponseText}
 use Rattle.ht_faults.specs.Sites.{faults_of}
 use Rattle.ht_faults.specs.Classes.{AreClasses}
 use Rattle.ht_valid.specs.ValidFiles.{AgreesWithTests, Content, IsJustified, IsOwn}
-use Rattle.ht_asked.specs.Asked.{Asked, Kind, report}
+use Rattle.ht_asked.specs.Asked.{Asked}
+use Rattle.ht_asked.specs.Table.{Kind, report}
 use Rattle.ht_inputs.specs.Jobs.{input_name, judges, may_state_start, order_of, start_name, takes_few}
 
 -- ---- one file
@@ -30,12 +31,13 @@ pub record IsInput (port : InPort) (name text : List ℕ) (desk : DeskView) : Ty
   pub known : IsSome (desk.left port)
 
 -- the desk doesn't tell that there is no file of this name
-abbrev pub MayHold : DeskView → List ℕ → Type 0
-MayHold desk name = desk.file name ≢ Some None
+abbrev pub MayBeHeld : DeskView → List ℕ → Type 0
+MayBeHeld desk name = desk.file name ≢ Some None
 
 -- The file of this name was read: there may be one, and where the desk tells its text, that is so.
-pub record WasRead (port : InPort) (name : List ℕ) (IsSo : List ℕ → Type 0) (old : DeskView) : Type 0 where
-  pub there : MayHold old name
+pub record WasRead (port : InPort) (name : List ℕ) (IsSo : List ℕ → Type 0) (old : DeskView) : Type
+    0 where
+  pub there : MayBeHeld old name
   pub told : (text : List ℕ) → IsInput port name text old → IsSo text
 
 -- the port was neither opened nor read, and no fault was counted there
@@ -72,7 +74,8 @@ pub record JobBasis : Type 0 where
   pub follows : Bool
 
 -- The text is the report of a search that says this, and agrees with the vectors.
-pub record IsGoodReport (c : net.Netlist) (representatives : List ℕ) (content : Content) (text : List ℕ) : Type 0 where
+pub record IsGoodReport (c : net.Netlist) (representatives : List ℕ) (content : Content)
+    (text : List ℕ) : Type 0 where
   pub reported : IsReportText c representatives text content.budget content.saids
   pub agrees : (i : ℕ) → IsOwn c representatives i
       → AgreesWithTests c content.start content.list i (said_at content.saids i)
@@ -83,13 +86,15 @@ IsStated job basis = start_name job ≡ None → basis.content.start ≡ unknown
 
 -- The text has these entries, and with the vectors they justify what is said of the faults: each backs what is said of
 -- its fault, and none that is needed is missing.
-pub record AreGoodProofs (c : net.Netlist) (representatives : List ℕ) (content : Content) (text : List ℕ) : Type 0 where
+pub record AreGoodProofs (c : net.Netlist) (representatives : List ℕ) (content : Content)
+    (text : List ℕ) : Type 0 where
   pub proved : IsProofText content.entries text
   pub justified : IsJustified c representatives content
 
 -- what the netlist says: the circuit and, to a job that judges proofs, the classes of its faults
 abbrev pub SaysCircuit : Bool → JobBasis → List ℕ → Type 0
-SaysCircuit true basis text = IsGoodNetlist text basis.circuit × AreClasses basis.circuit basis.representatives
+SaysCircuit true basis text = IsGoodNetlist text basis.circuit
+    × AreClasses basis.circuit basis.representatives
 SaysCircuit false basis text = IsGoodNetlist text basis.circuit
 
 -- what the tests say: the vectors, which may be few or any
@@ -106,16 +111,20 @@ SaysExtra false basis text =
 -- what the proofs say: the entries, and where `report` reads them it has the budget from its words
 abbrev pub SaysProofs : Kind → ℕ → JobBasis → List ℕ → Type 0
 SaysProofs report budget basis text =
-    (basis.content.budget ≡ budget) × AreGoodProofs basis.circuit basis.representatives basis.content text
-SaysProofs kind budget basis text = AreGoodProofs basis.circuit basis.representatives basis.content text
+    (basis.content.budget ≡ budget) × AreGoodProofs basis.circuit basis.representatives
+    basis.content text
+SaysProofs kind budget basis text = AreGoodProofs basis.circuit basis.representatives basis.content
+    text
 
 -- The text of a job's file says its part of the basis.
 abbrev pub SaysBasis : Asked → JobBasis → InPort → List ℕ → Type 0
 SaysBasis job basis Netlist text = SaysCircuit (judges job.command) basis text
 SaysBasis job basis Tests text = SaysVectors (takes_few job.command) basis text
 SaysBasis job basis Extra text = SaysExtra (may_state_start job) basis text
-SaysBasis job basis Faults text = IsFaultListText (length (faults_of basis.circuit)) text basis.chosen
-SaysBasis job basis Report text = IsGoodReport basis.circuit basis.representatives basis.content text
+SaysBasis job basis Faults text = IsFaultListText (length (faults_of basis.circuit)) text
+    basis.chosen
+SaysBasis job basis Report text = IsGoodReport basis.circuit basis.representatives basis.content
+    text
 SaysBasis job basis Proofs text = SaysProofs job.command job.numbers.budget basis text
 
 -- the number of a fault, from 1, is that of one of the circuit, where one is given
@@ -154,5 +163,7 @@ pub record AreGoodInputs (job : Asked) (desk : DeskView) : Type 0 where
   pub basis : JobBasis
   pub stated : IsStated job basis
   pub fault : HasFault job basis.circuit
-  pub told : (p : InPort) (name : List ℕ) → input_name job p ≡ Some name → IsInput p name (texts p) desk
-  pub say : (p : InPort) (name : List ℕ) → input_name job p ≡ Some name → SaysBasis job basis p (texts p)
+  pub told : (p : InPort) (name : List ℕ) → input_name job p ≡ Some name
+      → IsInput p name (texts p) desk
+  pub say : (p : InPort) (name : List ℕ) → input_name job p ≡ Some name → SaysBasis job basis p
+      (texts p)

@@ -3,8 +3,9 @@ use Rattle.std.specs.Prelude.{◌≡◌, ℕ, Bool, true, false, List, Option, S
 use Rattle.ht_ports.specs.Desk.{DeskView, Holds}
 use Rattle.ht_ports.specs.declared.ports.InPort.{InPort}
 use Rattle.ht_ports.specs.declared.ports.InPort.TheVariants as in_port
-use Rattle.ht_asked.specs.Asked.{Asked, Kind, check, compact, report}
-use Rattle.ht_asked.specs.Commands.{takes_start}
+use Rattle.ht_asked.specs.Asked.{Asked}
+use Rattle.ht_asked.specs.Table.{Kind, check, compact, report}
+use Rattle.ht_asked.specs.Table.{takes_start}
 
 -- the file that the job reads from the port
 abbrev pub input_name : Asked → InPort → Option (List ℕ)
@@ -36,20 +37,21 @@ takes_few kind = false
 
 -- the place of a port in the order of reading: what the port Extra has is read before the tests where it is a start, and
 -- after them else
-abbrev pub place_of : InPort → Bool → ℕ
-place_of in_port.Netlist is_start = 0
-place_of in_port.Extra true = 1
-place_of in_port.Extra false = 2
-place_of in_port.Tests true = 2
-place_of in_port.Tests false = 1
-place_of in_port.Report is_start = 3
-place_of in_port.Proofs is_start = 4
-place_of in_port.Faults is_start = 5
+abbrev pub turn_of : InPort → Bool → ℕ
+turn_of in_port.Netlist is_start = 0
+turn_of in_port.Extra true = 1
+turn_of in_port.Extra false = 2
+turn_of in_port.Tests true = 2
+turn_of in_port.Tests false = 1
+turn_of in_port.Report is_start = 3
+turn_of in_port.Proofs is_start = 4
+turn_of in_port.Faults is_start = 5
 
 -- the order in which a job reads its files, each whole before the next is opened
 abbrev pub order_of : Asked → InPort → ℕ
-order_of job port = place_of port (may_state_start job)
+order_of job port = turn_of port (may_state_start job)
 
 -- the desk holds the files that the job reads
 abbrev pub HoldsInputs : Asked → DeskView → Type 0
-HoldsInputs job desk = (port : InPort) (name : List ℕ) → input_name job port ≡ Some name → Holds desk name
+HoldsInputs job desk = (port : InPort) (name : List ℕ) → input_name job port ≡ Some name
+    → Holds desk name

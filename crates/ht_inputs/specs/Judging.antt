@@ -35,10 +35,11 @@ use Rattle.ht_inputs.specs.Reading.{IsReadFault}
 -- no line ends the run with an error, after those before it
 abbrev pub AreFine : (List (List ℕ) → List ℕ → RunError → Type 0) → List (List ℕ) → Type 0
 AreFine IsWrong lines =
-    (k : ℕ) (error : RunError) → k < length lines → ¬ IsWrong (take k lines) (get_or lines k []) error
+    (k : ℕ) (error : RunError) → k < length lines → ¬ IsWrong (take k lines)
+    (get_or lines k []) error
 
 -- The text has these lines, and is no longer than a text may be.
-pub record HasLines (lines : List (List ℕ)) (text : List ℕ) : Type 0 where
+pub record HasTextLines (lines : List (List ℕ)) (text : List ℕ) : Type 0 where
   pub lines_are : lines_of text ≡ lines
   pub short : length text ≤ max_text_bytes
 
@@ -52,11 +53,13 @@ pub record HasFront (lines : List (List ℕ)) (text : List ℕ) : Type 0 where
 pub record HasLongLine (longest : ℕ) (lines : List (List ℕ)) (text : List ℕ) : Type 0 where
   pub front : HasFront lines text
   pub there : length lines < length (lines_of text)
-  pub long : (longest < length (get_or (lines_of text) (length lines) [])) ⊎ IsTooLong text (length lines + 1)
+  pub long : (longest < length (get_or (lines_of text) (length lines) []))
+      ⊎ IsTooLong text (length lines + 1)
 
 -- A judge stands for the first `most` lines of the file, or for all where they are fewer. The first line has its bytes,
 -- and each other at least one.
-pub record StandsForFile (Stands : List (List ℕ) → Type 0) (IsWrong : List (List ℕ) → List ℕ → RunError → Type 0)
+pub record StandsForFile (Stands : List (List ℕ) → Type 0) (IsWrong : List (List ℕ) → List ℕ
+    → RunError → Type 0)
     (most : ℕ) (port : InPort) (name : List ℕ) (old : DeskView) : Type 0 where
   pub lines : List (List ℕ)
   pub stands : Stands lines
@@ -65,10 +68,11 @@ pub record StandsForFile (Stands : List (List ℕ) → Type 0) (IsWrong : List (
   pub fits : length lines ≤ max_text_bytes
   pub upto : length lines ≤ most
   pub front : WasRead port name (HasFront lines) old
-  pub whole : length lines < most → WasRead port name (HasLines lines) old
+  pub whole : length lines < most → WasRead port name (HasTextLines lines) old
 
 -- The file has a line that ends the run with this error, and none before it.
-pub record StopsAtLine (IsWrong : List (List ℕ) → List ℕ → RunError → Type 0) (most : ℕ) (error : RunError)
+pub record StopsAtLine (IsWrong : List (List ℕ) → List ℕ → RunError → Type 0) (most : ℕ)
+    (error : RunError)
     (port : InPort) (name : List ℕ) (old : DeskView) : Type 0 where
   pub before : List (List ℕ)
   pub line : List ℕ
@@ -78,7 +82,8 @@ pub record StopsAtLine (IsWrong : List (List ℕ) → List ℕ → RunError → 
   pub read : WasRead port name (HasFront (before ++ line ∷ [])) old
 
 -- A line of it is too long, and those before it are fine.
-pub record StopsAtLong (IsWrong : List (List ℕ) → List ℕ → RunError → Type 0) (longest most line : ℕ) (port : InPort)
+pub record StopsAtLong (IsWrong : List (List ℕ) → List ℕ → RunError → Type 0)
+    (longest most line : ℕ) (port : InPort)
     (name : List ℕ) (old : DeskView) : Type 0 where
   pub before : List (List ℕ)
   pub line_is : line ≡ length before + 1
@@ -87,9 +92,11 @@ pub record StopsAtLong (IsWrong : List (List ℕ) → List ℕ → RunError → 
   pub read : WasRead port name (HasLongLine longest before) old
 
 -- Why the file wasn't read: the desk failed, memory ran out, or a line ends the run with the error, or is too long.
-abbrev pub LinesStop : (List (List ℕ) → List ℕ → RunError → Type 0) → (ℕ → RunError) → ℕ → ℕ → InPort → List ℕ
+abbrev pub LinesStop : (List (List ℕ) → List ℕ → RunError → Type 0) → (ℕ → RunError) → ℕ → ℕ
+    → InPort → List ℕ
     → DeskView → DeskView → RunError → Type 0
-LinesStop IsWrong error_at longest most port name old new error = ((error ≡ ReadFault) × IsReadFault port name old new)
+LinesStop IsWrong error_at longest most port name old new error =
+    ((error ≡ ReadFault) × IsReadFault port name old new)
     ⊎ (error ≡ NoMemory) ⊎ StopsAtLine IsWrong most error port name old
     ⊎ ((line : ℕ) × (error ≡ error_at line) × StopsAtLong IsWrong longest most line port name old)
 
@@ -116,11 +123,12 @@ report_basis = judged_basis true
 -- ---- the report
 
 -- The judge stands for these lines of a report, by the basis.
-pub record StandsForReport (v : ReportJudgeView) (basis : JobBasis) (lines : List (List ℕ)) : Type 0 where
-  pub well_formed : IsCircuit basis.circuit
-  pub circuit : v.circuit ≡ basis.circuit
-  pub representatives : v.representatives ≡ basis.representatives
-  pub judges : JudgesReport v basis.content.start basis.content.list lines
+pub record StandsForReport (v : ReportJudgeView) (basis : JobBasis) (lines : List (List ℕ)) : Type 0
+  where
+    pub well_formed : IsCircuit basis.circuit
+    pub circuit : v.circuit ≡ basis.circuit
+    pub representatives : v.representatives ≡ basis.representatives
+    pub judges : JudgesReport v basis.content.start basis.content.list lines
 
 -- the line isn't one of a report after these, or contradicts the tests
 abbrev pub IsWrongInReport : JobBasis → List (List ℕ) → List ℕ → RunError → Type 0
@@ -134,8 +142,10 @@ IsWrongInReport basis before line other = ⊥
 pub record ReportIsRead (basis : JobBasis) (name : List ℕ) (old : DeskView) : Type 0 where
   pub each : length basis.content.saids ≡ length (faults_of basis.circuit)
   pub agrees : (i : ℕ) → IsOwn basis.circuit basis.representatives i
-      → AgreesWithTests basis.circuit basis.content.start basis.content.list i (said_at basis.content.saids i)
-  pub read : WasRead in_port.Report name (IsGoodReport basis.circuit basis.representatives basis.content) old
+      → AgreesWithTests basis.circuit basis.content.start basis.content.list i
+      (said_at basis.content.saids i)
+  pub read : WasRead in_port.Report name
+      (IsGoodReport basis.circuit basis.representatives basis.content) old
 
 -- ---- the proofs
 
@@ -151,17 +161,20 @@ IsTroubleBy true = IsEvidenceTrouble
 
 -- the same by a basis
 abbrev pub IsTroubleIn : JobBasis → List (List ℕ) → List ℕ → ℕ → Type 0
-IsTroubleIn basis = IsTroubleBy basis.follows basis.circuit basis.representatives (before_proofs basis.content)
+IsTroubleIn basis = IsTroubleBy basis.follows basis.circuit basis.representatives
+    (before_proofs basis.content)
 
 -- The judge stands for these lines of proofs, by the basis.
-pub record StandsForProofs (v : ProofJudgeView) (basis : JobBasis) (lines : List (List ℕ)) : Type 0 where
-  pub circuit : v.circuit ≡ basis.circuit
-  pub representatives : v.representatives ≡ basis.representatives
-  pub judges : JudgesBy basis.follows v (before_proofs basis.content) lines
+pub record StandsForProofs (v : ProofJudgeView) (basis : JobBasis) (lines : List (List ℕ)) : Type 0
+  where
+    pub circuit : v.circuit ≡ basis.circuit
+    pub representatives : v.representatives ≡ basis.representatives
+    pub judges : JudgesBy basis.follows v (before_proofs basis.content) lines
 
 -- the line isn't one of proofs after these, or something is wrong with an entry with it
 abbrev pub IsWrongInProofs : JobBasis → List (List ℕ) → List ℕ → RunError → Type 0
-IsWrongInProofs basis before line (Denied (Proofs number)) = (number ≡ length before + 1) × IsMalformedAfter before line
+IsWrongInProofs basis before line (Denied (Proofs number)) = (number ≡ length before + 1)
+    × IsMalformedAfter before line
 IsWrongInProofs basis before line (Denied (Fault number)) = IsTroubleIn basis before line number
 IsWrongInProofs basis before line other = ⊥
 
@@ -171,18 +184,21 @@ AgreeWithTests c representatives content = (i : ℕ) → IsOwn c representatives
     → AgreesWithTests c content.start content.list i (said_at content.saids i)
 
 -- The proofs of this name have the entries of the content, which justify what is said of the faults.
-pub record ProofsAreRead (c : Netlist) (representatives : List ℕ) (content : Content) (name : List ℕ) (old : DeskView)
+pub record ProofsAreRead (c : Netlist) (representatives : List ℕ) (content : Content)
+    (name : List ℕ) (old : DeskView)
     : Type 0 where
   pub justified : IsJustified c representatives content
   pub read : WasRead in_port.Proofs name (AreGoodProofs c representatives content) old
 
 -- The proofs of this name have some entries, which with the vectors justify these claims for the budget.
-pub record VerdictsAreRead (c : Netlist) (representatives : List ℕ) (content : Content) (name : List ℕ) (old : DeskView)
+pub record VerdictsAreRead (c : Netlist) (representatives : List ℕ) (content : Content)
+    (name : List ℕ) (old : DeskView)
     (claims : Claims) : Type 0 where
   pub budget : claims.budget ≡ content.budget
   pub each : length claims.saids.items ≡ length (faults_of c)
   pub entries : List Numbered
-  pub are : ProofsAreRead c representatives (record content { saids = claims.saids.items; entries = entries }) name old
+  pub are : ProofsAreRead c representatives
+      (record content { saids = claims.saids.items; entries = entries }) name old
 
 -- why reading proofs ends the run
 abbrev pub ProofsStop : JobBasis → List ℕ → DeskView → DeskView → RunError → Type 0
@@ -198,7 +214,8 @@ ProofsStop basis name old new error = ⊥
 
 -- The start is that of the first of these lines, or there is none that has it; and there is no second line. A line that
 -- is missing is read as an empty one.
-pub record StandsForStart (start : Option (Vec Tern Global)) (basis : JobBasis) (lines : List (List ℕ)) : Type 0 where
+pub record StandsForStart (start : Option (Vec Tern Global)) (basis : JobBasis)
+    (lines : List (List ℕ)) : Type 0 where
   pub line : MatchOption start
       ((values : List Tern) → ¬ IsStartLine (length basis.circuit.dffs) (get_or lines 0 []) values)
       (λ values. IsStartLine (length basis.circuit.dffs) (get_or lines 0 []) values.items)
@@ -211,7 +228,8 @@ pub record StandsForTests (v : Rows) (basis : JobBasis) (lines : List (List ℕ)
   pub widths : All (λ (vector : List Bool). length vector ≡ basis.circuit.inputs) v.list
 
 -- The rows are those of these lines of responses, and there are no more than vectors.
-pub record StandsForResponses (v : ObservationView) (basis : JobBasis) (lines : List (List ℕ)) : Type 0 where
+pub record StandsForResponses (v : ObservationView) (basis : JobBasis)
+    (lines : List (List ℕ)) : Type 0 where
   pub width : v.width ≡ length basis.circuit.outputs
   pub few : length v.rows ≤ length basis.content.list
   pub lines_are : lines ≡ map row_text v.rows

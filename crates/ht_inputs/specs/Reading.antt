@@ -12,7 +12,7 @@ use Rattle.ht_inputs.specs.declared.run_error.RunError.{RunError}
 use Rattle.ht_inputs.specs.declared.run_error.RunError.TheVariants.{Usage, ReadFault, WriteFault, NoMemory, BadTests, NoSuchFault}
 use Rattle.ht_inputs.specs.Inputs.{AcceptsBefore, AcceptsFile, HasFault, IsStated, IsUnread, JobBasis, HasNetlist, WasRead}
 use Rattle.ht_inputs.specs.Jobs.{input_name, order_of}
-use Rattle.ht_inputs.specs.Refusals.{IsRefusedFor, LacksFault, RefusesInput, refused_port}
+use Rattle.ht_inputs.specs.Refusals.{IsRefusedFor, LacksFault, RefusesFile, refused_port}
 
 -- ---- reading a file
 
@@ -31,7 +31,8 @@ ReadStops job basis port name old new error =
     (refused_port job error ≡ Some port) × WasRead port name (IsRefusedFor job basis error) old
 
 -- Of the tests the first vectors were read, and all where they are fewer than `most`.
-pub record AreVectorsUpTo (c : net.Netlist) (most : ℕ) (list : List (List Bool)) (text : List ℕ) : Type 0 where
+pub record AreVectorsUpTo (c : net.Netlist) (most : ℕ) (list : List (List Bool))
+    (text : List ℕ) : Type 0 where
   pub first : AreFirstVectors c text list
   pub all : length list < most → IsTestText c text list
 
@@ -57,14 +58,15 @@ pub record OnlyReads (old new : DeskView) : Type 0 where
 
 -- The job's files that come before this place in the order were read, and say what is basis; no other port was touched.
 -- A steady desk tells of each name whether there is a file.
-pub record HasReadTo (job : Asked) (basis : JobBasis) (place : ℕ) (old new : DeskView) : Type 0 where
-  pub reads : OnlyReads old new
-  pub netlist : 0 < place → HasNetlist basis.circuit
-  pub stated : IsStated job basis
-  pub accepts : (p : InPort) → order_of job p < place → AcceptsFile job basis p old
-  pub unread : (p : InPort) → place ≤ order_of job p → IsUnread p old new
-  pub others : (p : InPort) → input_name job p ≡ None → IsUnread p old new
-  pub tells : (name : List ℕ) → IsTrue old.steady → IsSome (old.file name)
+pub record HasReadTo (job : Asked) (basis : JobBasis) (place : ℕ) (old new : DeskView) : Type 0
+  where
+    pub reads : OnlyReads old new
+    pub netlist : 0 < place → HasNetlist basis.circuit
+    pub stated : IsStated job basis
+    pub accepts : (p : InPort) → order_of job p < place → AcceptsFile job basis p old
+    pub unread : (p : InPort) → place ≤ order_of job p → IsUnread p old new
+    pub others : (p : InPort) → input_name job p ≡ None → IsUnread p old new
+    pub tells : (name : List ℕ) → IsTrue old.steady → IsSome (old.file name)
 
 -- ---- why reading ends a run
 
@@ -102,7 +104,7 @@ StopsReading job old new ReadFault = FailsToRead job old new
 StopsReading job old new WriteFault = ⊥
 StopsReading job old new NoMemory = LacksMemory job old new
 StopsReading job old new (NoSuchFault faults) = LacksFault job faults old new
-StopsReading job old new error = RefusesInput job error old new
+StopsReading job old new error = RefusesFile job error old new
 
 -- The run ends before anything is written, for a cause; only files of the job were read.
 pub record EndsReading (job : Asked) (old new : DeskView) (error : RunError) : Type 0 where

@@ -21,7 +21,8 @@ use Rattle.ht_texts.specs.WrongLines.{IsFirst}
 use Rattle.ht_valid.specs.FirstTrouble.{EndsWrongEntry, IsEvidence, IsFaultTrouble, IsFirstFault, IsFirstProofLine, IsReportTrouble}
 use Rattle.ht_valid.specs.declared.trouble.Trouble.{Trouble}
 use Rattle.ht_valid.specs.declared.trouble.Trouble.TheVariants as trouble
-use Rattle.ht_asked.specs.Asked.{Asked, Kind, check, report}
+use Rattle.ht_asked.specs.Asked.{Asked}
+use Rattle.ht_asked.specs.Table.{Kind, check, report}
 use Rattle.ht_inputs.specs.declared.run_error.RunError.{RunError}
 use Rattle.ht_inputs.specs.declared.run_error.RunError.TheVariants.{Denied, TooLong, Refused, BadStart, BadTests, TooManyVectors, BadResponses, NoMemory, NoSuchFault, BadFaults}
 use Rattle.ht_inputs.specs.Inputs.{AcceptsBefore, HasFault, HasNetlist, IsInput, IsStated, IsUnread, JobBasis, AreGoodProofs, IsGoodNetlist, SaysBasis, WasRead}
@@ -65,7 +66,8 @@ before_proofs content = record content { entries = [] }
 abbrev pub IsTroubleFor : Kind → ℕ → JobBasis → List (List ℕ) → List ℕ → ℕ → Type 0
 IsTroubleFor report budget basis = EndsWrongEntry
     (IsEvidence basis.circuit basis.representatives basis.content.start basis.content.list budget)
-IsTroubleFor kind budget basis = IsFaultTrouble basis.circuit basis.representatives (before_proofs basis.content)
+IsTroubleFor kind budget basis = IsFaultTrouble basis.circuit basis.representatives
+    (before_proofs basis.content)
 
 -- the same for the budget of a job
 abbrev pub IsTroubleOf : Asked → JobBasis → List (List ℕ) → List ℕ → ℕ → Type 0
@@ -82,22 +84,27 @@ abbrev pub IsRefusedFor : Asked → JobBasis → RunError → List ℕ → Type 
 IsRefusedFor job basis TooLong text = max_netlist_bytes < length text
 IsRefusedFor job basis (Refused error) text = IsRefused error text
 IsRefusedFor job basis (BadStart line) text = IsMalformedStart (length basis.circuit.dffs) text line
-IsRefusedFor job basis (BadTests line) text = IsWrongTest (takes_few job.command) basis.circuit text line
+IsRefusedFor job basis (BadTests line) text = IsWrongTest (takes_few job.command) basis.circuit text
+    line
 IsRefusedFor job basis TooManyVectors text = HasTooManyVectors basis.circuit text
 IsRefusedFor job basis (BadResponses line) text =
     IsMalformedResponse (length basis.circuit.outputs) (length basis.content.list) text line
-IsRefusedFor job basis (BadFaults line) text = IsMalformedFaultList (length (faults_of basis.circuit)) text line
+IsRefusedFor job basis (BadFaults line) text = IsMalformedFaultList
+    (length (faults_of basis.circuit)) text line
 IsRefusedFor job basis (Denied (trouble.Tests line)) text = IsMalformedTest basis.circuit text line
 IsRefusedFor job basis (Denied (trouble.Report line)) text =
-    IsFirst (IsReportTrouble basis.circuit basis.representatives basis.content.start basis.content.list text) line
-IsRefusedFor job basis (Denied (trouble.Proofs line)) text = IsFirstProofLine (IsTroubleOf job basis) text line
-IsRefusedFor job basis (Denied (trouble.Fault number)) text = IsFirstFault (IsTroubleOf job basis) text number
+    IsFirst (IsReportTrouble basis.circuit basis.representatives basis.content.start
+    basis.content.list text) line
+IsRefusedFor job basis (Denied (trouble.Proofs line)) text =
+    IsFirstProofLine (IsTroubleOf job basis) text line
+IsRefusedFor job basis (Denied (trouble.Fault number)) text =
+    IsFirstFault (IsTroubleOf job basis) text number
 IsRefusedFor job basis error text = ⊥
 
 -- The job refuses the text of a file for this error: the files before it say the basis, this one may be there, and
 -- those after it weren't opened. Tests, and what is read after them, are refused only where the circuit has the fault
 -- that the job names.
-pub record RefusesInput (job : Asked) (error : RunError) (old new : DeskView) : Type 0 where
+pub record RefusesFile (job : Asked) (error : RunError) (old new : DeskView) : Type 0 where
   pub basis : JobBasis
   pub port : InPort
   pub name : List ℕ
@@ -143,14 +150,16 @@ abbrev pub HasCircuit : (InPort → List ℕ) → (net.Netlist → Type 0) → T
 HasCircuit texts IsSo = (c : net.Netlist) × IsGoodNetlist (texts Netlist) c × IsSo c
 
 -- the start that the texts state, or all-unknown where the job states none
-abbrev pub IsStartOf : Option (List ℕ) → net.Netlist → (InPort → List ℕ) → List Tern → Type 0
-IsStartOf (Some name) c texts start = IsStartText (length c.dffs) (texts Extra) start
-IsStartOf None c texts start = start ≡ unknown_state c
+abbrev pub IsStartIn : Option (List ℕ) → net.Netlist → (InPort → List ℕ) → List Tern → Type 0
+IsStartIn (Some name) c texts start = IsStartText (length c.dffs) (texts Extra) start
+IsStartIn None c texts start = start ≡ unknown_state c
 
 -- The tests and the proofs justify what some content says from the start, for this budget.
 abbrev pub JustifyReport : net.Netlist → List ℕ → List Tern → ℕ → List ℕ → List ℕ → Type 0
-JustifyReport c representatives start budget tests proofs = (content : Content) × (content.start ≡ start)
-    × (content.budget ≡ budget) × IsTestText c tests content.list × AreGoodProofs c representatives content proofs
+JustifyReport c representatives start budget tests proofs = (content : Content)
+    × (content.start ≡ start)
+    × (content.budget ≡ budget) × IsTestText c tests content.list
+    × AreGoodProofs c representatives content proofs
 
 -- what a command that judges proofs looks for: the files of `check` are valid for the start, those of `report` justify
 -- one for its budget
@@ -164,19 +173,21 @@ AreValidFor kind budget texts c representatives start = Unit {0}
 -- A circuit, its classes and a start that the texts say, for which they aren't valid.
 abbrev pub AreDenied : Asked → (InPort → List ℕ) → Type 0
 AreDenied job texts = HasCircuit texts (λ c. (representatives : List ℕ) × (start : List Tern)
-    × AreClasses c representatives × IsStartOf (start_name job) c texts start
+    × AreClasses c representatives × IsStartIn (start_name job) c texts start
     × (¬ AreValidFor job.command job.numbers.budget texts c representatives start))
 
 -- The text of a port is refused for an error, and the texts before it say a basis, of which the netlist says the
 -- circuit; the fault that the job names is one of it where the tests, or what comes after them, are refused.
-pub record IsRefusedText (job : Asked) (texts : InPort → List ℕ) (port : InPort) (status : ℕ) : Type 0 where
+pub record IsRefusedText (job : Asked) (texts : InPort → List ℕ) (port : InPort)
+    (status : ℕ) : Type 0 where
   pub error : RunError
   pub status_is : status ≡ exit_status error
   pub at : refused_port job error ≡ Some port
   pub basis : JobBasis
   pub circuit : IsGoodNetlist (texts Netlist) basis.circuit
   pub stated : IsStated job basis
-  pub before : (p : InPort) (name : List ℕ) → 0 < order_of job p → order_of job p < order_of job port
+  pub before : (p : InPort) (name : List ℕ) → 0 < order_of job p
+      → order_of job p < order_of job port
       → input_name job p ≡ Some name → SaysBasis job basis p (texts p)
   pub fault : order_of job Tests ≤ order_of job port → HasFault job basis.circuit
   pub refused : IsRefusedFor job basis error (texts port)
@@ -184,7 +195,8 @@ pub record IsRefusedText (job : Asked) (texts : InPort → List ℕ) (port : InP
 -- Of the texts up to this port a job refuses one, and then ends with this status: the netlist is that of no circuit; the
 -- files that it judges aren't valid, or justify nothing; or the text has a first trouble.
 abbrev pub AreRefusedWith : Asked → (InPort → List ℕ) → InPort → ℕ → Type 0
-AreRefusedWith job texts Netlist status = (status ≡ 3) × ((c : net.Netlist) → ¬ IsGoodNetlist (texts Netlist) c)
+AreRefusedWith job texts Netlist status = (status ≡ 3)
+    × ((c : net.Netlist) → ¬ IsGoodNetlist (texts Netlist) c)
 AreRefusedWith job texts Report status = ⊥
 AreRefusedWith job texts Proofs status = (status ≡ 1) × AreDenied job texts
 AreRefusedWith job texts port status = IsRefusedText job texts port status
@@ -195,7 +207,8 @@ pub record HasRefusedInputs (job : Asked) (status : ℕ) (desk : DeskView) : Typ
   pub port : InPort
   pub name : List ℕ
   pub reads : input_name job port ≡ Some name
-  pub told : (p : InPort) (name : List ℕ) → order_of job p ≤ order_of job port → input_name job p ≡ Some name
+  pub told : (p : InPort) (name : List ℕ) → order_of job p ≤ order_of job port → input_name job p
+      ≡ Some name
       → IsInput p name (texts p) desk
   pub refused : AreRefusedWith job texts port status
 
@@ -206,7 +219,8 @@ pub record HasNoSuchFault (job : Asked) (desk : DeskView) : Type 0 where
   pub circuit : net.Netlist
   pub start : List Tern
   pub netlist : IsGoodNetlist (texts Netlist) circuit
-  pub started : IsStartOf (start_name job) circuit texts start
-  pub told : (p : InPort) (name : List ℕ) → order_of job p < order_of job Tests → input_name job p ≡ Some name
+  pub started : IsStartIn (start_name job) circuit texts start
+  pub told : (p : InPort) (name : List ℕ) → order_of job p < order_of job Tests → input_name job p
+      ≡ Some name
       → IsInput p name (texts p) desk
   pub unlisted : ¬ HasFault job circuit

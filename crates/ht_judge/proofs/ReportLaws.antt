@@ -62,7 +62,7 @@ place_is p q vector output =
     let P : ℕ → ℕ → Place = λ v o. record { vector = v; output = o } in
     ap (λ v. P v p.output) vector ∙ ap (P q.vector) output
 
-one_place : (c : Netlist) (f : Fault) (start : List Tern) (list : List (List Bool)) (p q : Place)
+pub one_place : (c : Netlist) (f : Fault) (start : List Tern) (list : List (List Bool)) (p q : Place)
     → IsFirstFrom c f start list (Some p) → IsFirstFrom c f start list (Some q) → p ≡ q
 one_place c f start list p q a b =
     let vector : p.vector ≡ q.vector = omega
@@ -70,7 +70,7 @@ one_place c f start list p q a b =
     place_is p q vector
     (omega (arith, not_lower c f start list p q vector a b, not_lower c f start list q p (sym vector) b a))
 
-agrees_with_tests : (c : Netlist) (start : List Tern) (list : List (List Bool)) (i : ℕ) (place : Option Place)
+pub agrees_with_tests : (c : Netlist) (start : List Tern) (list : List (List Bool)) (i : ℕ) (place : Option Place)
     (said : Said)
     → IsFirstFrom c (fault_at c i) start list place → AgreesWithPlace place said → AgreesWithTests c start list i said
 agrees_with_tests c start list i (Some p) (Detected q) is same =
@@ -85,7 +85,7 @@ agrees_with_tests c start list i None Undetectable is agrees = is
 agrees_with_tests c start list i None Aborted is agrees = is
 agrees_with_tests c start list i None Undetected is agrees = is
 
-agrees_with_place : (c : Netlist) (start : List Tern) (list : List (List Bool)) (i : ℕ) (place : Option Place)
+pub agrees_with_place : (c : Netlist) (start : List Tern) (list : List (List Bool)) (i : ℕ) (place : Option Place)
     (said : Said)
     → IsFirstFrom c (fault_at c i) start list place → AgreesWithTests c start list i said → AgreesWithPlace place said
 agrees_with_place c start list i (Some p) (Detected q) is agrees = one_place c (fault_at c i) start list p q is agrees
@@ -117,6 +117,28 @@ other_item : (own : Bool) (n k : ℕ) (s : Said)
 other_item true n k s e = absurd cc
 other_item false n k s e = refl
 
+-- the budget of a head is one of a search
+head_budget : (c : Netlist) (representatives : List ℕ) (at : ReportReading) (b : ℕ)
+    → IsReportReading c representatives at → last_item representatives at ≡ Some (Head b) → IsBudget b
+head_budget c representatives before_report b is says = absurd cc
+head_budget c representatives (in_report k []) b is says =
+    let e : ◌≡◌ {A = Option Item} (Some (Head k)) (Some (Head b)) = says in
+    let same : k ≡ b = cc in
+    subst IsBudget same is.budget_is
+head_budget c representatives (in_report k (said ∷ saids)) b is says =
+    absurd (no_head (is_representative representatives (length saids)) (length saids) b
+    (said_at (said ∷ saids) (length saids)) says)
+head_budget c representatives (after_report k saids) b is says = absurd cc
+
+-- the budget after a line is one of a search, if that before it is
+pub budget_by : (c : Netlist) (representatives : List ℕ) (one : Item) (at : ReportReading) (budget : ℕ)
+    → IsReportReading c representatives at → last_item representatives at ≡ Some one → IsBudget budget
+    → IsBudget (budget_with one budget)
+budget_by c representatives (Head b) at budget is says before = head_budget c representatives at b is says
+budget_by c representatives (Verdict k said) at budget is says before = before
+budget_by c representatives (Member k) at budget is says before = before
+budget_by c representatives Total at budget is says before = before
+
 module _ (c : Netlist) (representatives : List ℕ) (before : List (List ℕ)) (line : List ℕ) where
   unmoved : (at : ReportReading) → ReportReadsTo c representatives before at
       → ¬ ReportReadsTo c representatives (before ++ line ∷ []) at
@@ -124,7 +146,7 @@ module _ (c : Netlist) (representatives : List ℕ) (before : List (List ℕ)) (
       omega (arith, ap length (new.lines_are ∙ sym old.lines_are), length-append before (line ∷ []))
 
   -- what is kept after a line is what was said up to it
-  kept_on : (at : ReportReading) (item : Item) (budget : ℕ) (saids : List Said)
+  pub kept_on : (at : ReportReading) (item : Item) (budget : ℕ) (saids : List Said)
       → ReportReadsTo c representatives before at
       → ReportReadsTo c representatives (before ++ line ∷ []) (read_on at item)
       → KeepsSaid at budget saids → KeepsSaid (read_on at item) (budget_with item budget) (saids ++ saids_in item)
@@ -148,7 +170,7 @@ module _ (c : Netlist) (representatives : List ℕ) (before : List (List ℕ)) (
     pub listed : k < length (faults_of c)
     pub lines : length before ≡ length saids + 1
 
-  next_verdict : (at : ReportReading) (k : ℕ) (said : Said) (budget : ℕ) (saids : List Said)
+  pub next_verdict : (at : ReportReading) (k : ℕ) (said : Said) (budget : ℕ) (saids : List Said)
       → ReportReadsTo c representatives before at
       → ReportReadsTo c representatives (before ++ line ∷ []) (read_on at (Verdict k said))
       → last_item representatives (read_on at (Verdict k said)) ≡ Some (Verdict k said) → KeepsSaid at budget saids
@@ -168,7 +190,7 @@ module _ (c : Netlist) (representatives : List ℕ) (before : List (List ℕ)) (
   next_verdict (after_report b s) k said budget saids old new says kept = absurd (unmoved (after_report b s) old new)
 
   -- another line of a fault is that of no representative
-  next_member : (at : ReportReading) (k : ℕ) (budget : ℕ) (saids : List Said)
+  pub next_member : (at : ReportReading) (k : ℕ) (budget : ℕ) (saids : List Said)
       → ReportReadsTo c representatives before at
       → ReportReadsTo c representatives (before ++ line ∷ []) (read_on at (Member k))
       → last_item representatives (read_on at (Member k)) ≡ Some (Member k) → KeepsSaid at budget saids
@@ -358,32 +380,14 @@ module _ (a : Inside) (r : ReportView) (line : List ℕ) (item : Item) (keeps : 
         );
   })
 
-  -- the budget of a head is one of a search
-  head_budget : (at : ReportReading) (b : ℕ) → IsReportReading r.circuit r.representatives at
-      → last_item r.representatives at ≡ Some (Head b) → IsBudget b
-  head_budget before_report b is says = absurd cc
-  head_budget (in_report k []) b is says =
-      let e : ◌≡◌ {A = Option Item} (Some (Head k)) (Some (Head b)) = says in
-      let same : k ≡ b = cc in
-      subst IsBudget same is.budget_is
-  head_budget (in_report k (said ∷ saids)) b is says =
-      absurd (no_head (is_representative r.representatives (length saids)) (length saids) b
-      (said_at (said ∷ saids) (length saids)) says)
-  head_budget (after_report k saids) b is says = absurd cc
-
-  budget_by : (one : Item) (at : ReportReading) → IsReportReading r.circuit r.representatives at
-      → last_item r.representatives at ≡ Some one → IsBudget (budget_with one a.budget)
-  budget_by (Head b) at is says = head_budget at b is says
-  budget_by (Verdict k said) at is says = keeps.budget
-  budget_by (Member k) at is says = keeps.budget
-  budget_by Total at is says = keeps.budget
-
   -- the budget that is kept after a line is one of a search
   pub has_budget : (budget : ℕ) → budget ≡ budget_with item a.budget → IsBudget budget
   has_budget budget is =
       let had = keeps.stands live in
       let next = called.taken had.0 had.1 had.2 in
-      subst IsBudget (sym is) (budget_by item (read_on had.1 item) next.stands.read.readable next.says)
+      subst IsBudget (sym is)
+      (budget_by r.circuit r.representatives item (read_on had.1 item) a.budget next.stands.read.readable next.says
+      keeps.budget)
 
 -- if the reader finds a line malformed, the judge stops at the number of that line
 pub line_refused : (a : Inside) (r : ReportView) (line : List ℕ) (malformed : MalformedLine) (error : JudgeError)

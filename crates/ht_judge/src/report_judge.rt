@@ -74,8 +74,8 @@ fn agrees_with(place: Option<Place>, said: Said) -> bool
     }
 }
 
-// Whether what a line says agrees with the first detections.
-fn agrees(detections: &[Option<Place>], item: Item) -> bool
+/// Whether what a line of a report says agrees with the first detections, which are by number from 0.
+pub fn agrees(detections: &[Option<Place>], item: Item) -> bool
     ensures { IsTrue result ↔ AgreesWithPlaces detections.now item }
 {
     match item {
@@ -84,8 +84,11 @@ fn agrees(detections: &[Option<Place>], item: Item) -> bool
     }
 }
 
-// Keeps what a line says.
-fn keep(budget: &mut u64, saids: &mut Vec<Said>, item: Item) -> Result<(), AllocError>
+/// Keeps what a line of a report says: the budget of its head, or its verdict after those of the faults before.
+///
+/// # Errors
+/// Out of memory.
+pub fn keep(budget: &mut u64, saids: &mut Vec<Said>, item: Item) -> Result<(), AllocError>
     ensures budget { budget.new ≡ budget_with item budget.old }
     ensures saids { OnOk result (saids.new.items ≡ saids.old.items ++ saids_in item) }
 {

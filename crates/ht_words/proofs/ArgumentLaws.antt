@@ -24,7 +24,8 @@ with_more : (app : App) (rule : Rule) (rest : List Rule)
 with_more app rule rest = ap (with_all app) (append_assoc app.top.rules (rule ∷ []) rest)
 
 -- the rule of a local argument that was added comes before the rules that are added after it
-pub one_more : (old new : Command) (arg : Arg) (rule : Rule) (rest : List Rule) → AddsArg old arg new → arg.global ≡ false
+pub one_more : (old new : Command) (arg : Arg) (rule : Rule) (rest : List Rule) → AddsArg old arg new → arg.global
+    ≡ false
     → rule_of arg ≡ rule → with_rules (app_of new) rest ≡ with_rules (app_of old) (rule ∷ rest)
 one_more old new arg rule rest adds local rule_is =
     ap (λ (a : App). with_rules a rest) (adds.shape local)

@@ -3,10 +3,12 @@ use Rattle.std.proofs.Common.{◌≡◌, ◌∷◌, Bool, ℕ, true, false, cond
 use Rattle.std.specs.Prelude.{IfSome, codes, find, map, option_and_then, option_map}
 use Rattle.std.specs.Str.{bytes_eq}
 use Rattle.clap.specs.Walk.{Text}
-use Rattle.ht_asked.specs.Forms.{Part, given, given_by, has_form, options_of, parts, positionals_of, text_of}
-use Rattle.ht_asked.specs.Asked.{Asked, InNames, Kind, Numbers, OutNames, makes_nothing, reads_nothing, unsaid}
-use Rattle.ht_asked.specs.Asked.{sim, gen, check, norm, demo, compact, diagnose, uninit, sync, respond, report}
-use Rattle.ht_asked.specs.Commands.{Command, asked, budget_of, command_of, deep_of, demo_size, fault_of, kinds}
+use Rattle.ht_asked.specs.Forms.{Part, given, given_by, fits_form, options_of, parts, positionals_of, text_of}
+use Rattle.ht_asked.specs.Asked.{Asked, InNames, Numbers, OutNames, makes_nothing, reads_nothing, unsaid}
+use Rattle.ht_asked.specs.Table.{Kind}
+use Rattle.ht_asked.specs.Table.{sim, gen, check, norm, demo, compact, diagnose, uninit, sync, respond, report, breed}
+use Rattle.ht_asked.specs.Commands.{Command, asked, bred_of, budget_of, command_of, deep_of, demo_size, fault_of}
+use Rattle.ht_asked.specs.Table.{kinds}
 use Rattle.ht_asked.specs.Commands.{numbers_with, random_of, seed_of}
 use Rattle.ht_words.specs.Jobs.{asked_by}
 use Rattle.ht_words.specs.declared.job.Job.{Job}
@@ -34,7 +36,7 @@ by_gen : (n t r p : Text) (start first faults : Option Text) (budget random weig
       reads = record { netlist = Some n; tests = first; report = None; proofs = None; faults = faults; extra = start };
       makes = record { tests = Some t; report = Some r; proofs = Some p };
       numbers = numbers;
-    }) (numbers_with budget random weighted seed deep (Some None) (Some 1)))
+    }) (numbers_with budget random weighted (Some 2000) seed deep (Some None) (Some 1)))
 by_gen n t r p start first faults (Some b) (Some x) (Some w) (Some s) (Some d) = (
   job.Gen (files_of n t r p) (record {
     budget = b;
@@ -56,13 +58,13 @@ by_budget : (j : ℕ → Job) (kind : Kind) (reads : InNames) (makes : OutNames)
     ≡ record { command = kind; reads = reads; makes = makes; numbers = record unsaid { budget = b } })
     → (budget : Option ℕ) → AsksForJob (option_map
     (λ (numbers : Numbers). record { command = kind; reads = reads; makes = makes; numbers = numbers })
-    (numbers_with budget (Some 0) (Some 0) (Some 0) (Some false) (Some None) (Some 1)))
+    (numbers_with budget (Some 0) (Some 0) (Some 2000) (Some 0) (Some false) (Some None) (Some 1)))
 by_budget j kind reads makes is (Some b) = (j b, is b)
 by_budget j kind reads makes is None = tt
 
 by_demo : (seed size : Option ℕ) → AsksForJob (option_map
     (λ (numbers : Numbers). record { command = demo; reads = reads_nothing; makes = makes_nothing; numbers = numbers })
-    (numbers_with (Some 1000) (Some 0) (Some 0) seed (Some false) (Some None) size))
+    (numbers_with (Some 1000) (Some 0) (Some 0) (Some 2000) seed (Some false) (Some None) size))
 by_demo (Some s) (Some z) = (job.Demo z s, refl)
 by_demo _ _ = tt
 
@@ -72,9 +74,22 @@ by_fault : (n t o : Text) (start : Option Text) (fault : Option (Option ℕ)) �
       reads = record reads_nothing { netlist = Some n; tests = Some t; extra = start };
       makes = record makes_nothing { report = Some o };
       numbers = numbers;
-    }) (numbers_with (Some 1000) (Some 0) (Some 0) (Some 0) (Some false) fault (Some 1)))
+    }) (numbers_with (Some 1000) (Some 0) (Some 0) (Some 2000) (Some 0) (Some false) fault (Some 1)))
 by_fault n t o start (Some f) = (job.Respond n t o f start, refl)
 by_fault n t o start None = tt
+
+by_breed : (n t o : Text) (start : Option Text) (bred seed : Option ℕ) → AsksForJob (option_map
+    (λ (numbers : Numbers). record {
+      command = breed;
+      reads = record reads_nothing { netlist = Some n; tests = Some t; extra = start };
+      makes = record makes_nothing { tests = Some o };
+      numbers = numbers;
+    }) (numbers_with (Some 1000) (Some 0) (Some 0) bred seed (Some false) (Some None) (Some 1)))
+by_breed n t o start (Some b) (Some s) = (
+  job.Breed (record { netlist = n; tests = t; out = o }) (record { vectors = b; seed = s; start = start }),
+  refl,
+)
+by_breed n t o start _ _ = tt
 
 by_names : (kind : Kind) (names : List Text) (v : Text → Option Text) → AsksForJob (asks_for kind names v)
 by_names sim (n ∷ t ∷ r ∷ []) v = (job.Sim n t r (v (codes "start")), refl)
@@ -95,12 +110,14 @@ by_names report (n ∷ t ∷ p ∷ r ∷ []) v = by_budget
     (λ b. job.Report (files_of n t r p) b (v (codes "start"))) report
     (record reads_nothing { netlist = Some n; tests = Some t; proofs = Some p; extra = v (codes "start") })
     (record makes_nothing { report = Some r }) (λ b. refl) (budget_of (v (codes "budget")))
+by_names breed (n ∷ t ∷ o ∷ []) v =
+    by_breed n t o (v (codes "start")) (bred_of (v (codes "vectors"))) (seed_of (v (codes "seed")))
 by_names kind names v = tt
 
 by_parts : (kind : Kind) (ps : Option (List Part)) → AsksForJob
     (option_and_then (command_of kind).asks (option_and_then (given_by (command_of kind).form) ps))
 by_parts kind None = tt
-by_parts kind (Some ps) = go (has_form (command_of kind).form ps)
+by_parts kind (Some ps) = go (fits_form (command_of kind).form ps)
   where
     go : (b : Bool) → AsksForJob (option_and_then (command_of kind).asks (cond b (Some (record {
       positionals = positionals_of ps;

@@ -1,9 +1,9 @@
 -- Jobs as what words ask for.
 use Rattle.std.specs.Prelude.{◌≡◌, ◌∷◌, List, [], Option, Some, None, Result, Err, IfOk, ℕ, codes, map, option_and_then}
 use Rattle.clap.specs.Words.{Row, Text, first_of}
-use Rattle.ht_asked.specs.declared.limits.TheConstants.{MAX_SEED, MAX_SIZE, MIN_SIZE}
+use Rattle.ht_asked.specs.declared.limits.TheConstants.{DEFAULT_BRED, MAX_SEED, MAX_SIZE, MIN_SIZE}
 use Rattle.ht_asked.specs.Asked.{Asked, Numbers, OutNames, makes_nothing, reads_nothing, unsaid}
-use Rattle.ht_asked.specs.Asked.{sim, gen, check, norm, demo, compact, diagnose, uninit, sync, respond, report}
+use Rattle.ht_asked.specs.Table.{sim, gen, check, norm, demo, compact, diagnose, uninit, sync, respond, report, breed}
 use Rattle.ht_asked.specs.ByClap.{all_of}
 use Rattle.ht_asked.specs.Commands.{budget_of, deep_of, numbers_with, random_of, seed_of}
 use Rattle.ht_asked.specs.Numbers.{number_in}
@@ -28,7 +28,8 @@ numbers_by o = record unsaid {
 abbrev pub numbers_in : List Row → Option Numbers
 numbers_in rows = numbers_with (budget_of (first_of (codes "budget") rows))
     (random_of (first_of (codes "random") rows)) (random_of (first_of (codes "weighted") rows))
-    (seed_of (first_of (codes "seed") rows)) (deep_of (first_of (codes "search") rows)) (Some None) (Some MIN_SIZE)
+    (Some DEFAULT_BRED) (seed_of (first_of (codes "seed") rows))
+    (deep_of (first_of (codes "search") rows)) (Some None) (Some MIN_SIZE)
 
 -- the names of the files of a run in the rows, where none is missing
 abbrev pub files_in : List Row → Option (List Text)
@@ -41,7 +42,11 @@ run_names files = files.netlist ∷ files.tests ∷ files.report ∷ files.proof
 
 -- the three files that a search makes
 abbrev pub made_by : RunFiles → OutNames
-made_by files = record { tests = Some files.tests; report = Some files.report; proofs = Some files.proofs }
+made_by files = record {
+  tests = Some files.tests;
+  report = Some files.report;
+  proofs = Some files.proofs;
+}
 
 -- what words ask for where they ask for the job
 abbrev pub asked_by : Job → Asked
@@ -94,7 +99,11 @@ asked_by (job.Compact netlist tests out) = record {
 }
 asked_by (job.Diagnose netlist tests responses out) = record {
   command = diagnose;
-  reads = record reads_nothing { netlist = Some netlist; tests = Some tests; extra = Some responses };
+  reads = record reads_nothing {
+    netlist = Some netlist;
+    tests = Some tests;
+    extra = Some responses;
+  };
   makes = record makes_nothing { report = Some out };
   numbers = unsaid;
 }
@@ -116,6 +125,16 @@ asked_by (job.Respond netlist tests out fault start) = record {
   makes = record makes_nothing { report = Some out };
   numbers = record unsaid { fault = fault };
 }
+asked_by (job.Breed files options) = record {
+  command = breed;
+  reads = record reads_nothing {
+    netlist = Some files.netlist;
+    tests = Some files.tests;
+    extra = options.start;
+  };
+  makes = record makes_nothing { tests = Some files.out };
+  numbers = record unsaid { bred = options.vectors; seed = options.seed };
+}
 asked_by (job.Report files budget start) = record {
   command = report;
   reads = record reads_nothing {
@@ -135,17 +154,19 @@ demo_with _ _ = None
 
 -- `demo`, by the rows in which `clap` gives the values
 abbrev pub demo_in : List Row → Option Asked
-demo_in rows = demo_with (option_and_then (number_in MIN_SIZE MAX_SIZE) (first_of (codes "size") rows))
+demo_in rows = demo_with
+    (option_and_then (number_in MIN_SIZE MAX_SIZE) (first_of (codes "size") rows))
     (option_and_then (number_in 0 MAX_SEED) (first_of (codes "seed") rows))
 
 -- what is read where the words say this: their value, or a refusal; `Usage` only where they say none
-pub record IsReadAs {T U : Type 0} (said : Option U) (taken : T → U) (result : Result T WordsFault) : Type 0 where
+pub record IsReadAs {T U : Type 0} (said : Option U) (taken : T → U)
+    (result : Result T WordsFault) : Type 0 where
   pub usage : result ≡ Err Usage → said ≡ None
   pub ok : IfOk result (λ v. said ≡ Some (taken v))
 
 -- what is read where the words say this, as it is
-abbrev pub Reads : {T : Type 0} → Option T → Result T WordsFault → Type 0
-Reads said result = IsReadAs said (λ v. v) result
+abbrev pub Hears : {T : Type 0} → Option T → Result T WordsFault → Type 0
+Hears said result = IsReadAs said (λ v. v) result
 
 -- the answer to what words ask for: the job, or a refusal
 abbrev pub IsAnswer : Option Asked → Result Job WordsFault → Type 0

@@ -4,52 +4,13 @@ ghost use Rattle.clap.specs.Walk.{texts};
 ghost use Rattle.clap.specs.Words.{app_of, is_simple_and_free, rule_of};
 ghost use Rattle.ht_asked.specs.Commands.{command_named};
 ghost use Rattle.ht_asked.specs.ByClap.{app_named, app_with};
-ghost use Rattle.ht_words.specs.Arguments.{form_of, rule_for, with_rules};
+ghost use Rattle.ht_words.specs.Arguments.{arguments_form, rule_for, with_rules};
 
+use crate::commands::{Arguments, arguments_of};
 use clap::{Arg, Command};
 use std::alloc::{AllocError, Global};
 
-/// The names of a command's arguments: the positionals in their order, each of them wanted, and the options.
-#[derive(Clone, Copy)]
-struct Arguments {
-    positionals: &'static [&'static str],
-    options: &'static [&'static str],
-}
-
-/// The arguments of the command that the word names, in lower case.
-fn arguments_of(word: &str) -> Option<Arguments>
-    ensures { option_map (λ a. app_with word.now (form_of a)) result
-        ≡ option_map (λ c. app_with c.name c.form) (command_named word.now) }
-{
-    let (positionals, options): (&[&str], &[&str]) = match word {
-        "sim" => (&["netlist", "tests", "report"], &["start"]),
-        "gen" => (
-            &["netlist", "tests", "report", "proofs"],
-            &[
-                "budget", "random", "seed", "start", "first", "faults", "weighted", "search",
-            ],
-        ),
-        "check" => (&["netlist", "tests", "report", "proofs"], &["start"]),
-        "norm" => (&["netlist", "out"], &[]),
-        "demo" => (&["size", "seed"], &[]),
-        "compact" => (&["netlist", "tests", "out"], &[]),
-        "diagnose" => (&["netlist", "tests", "responses", "out"], &[]),
-        "uninit" => (&["netlist", "out"], &["budget"]),
-        "sync" => (&["netlist", "tests", "out"], &["budget"]),
-        "respond" => (&["netlist", "tests", "out"], &["fault", "start"]),
-        "report" => (
-            &["netlist", "tests", "proofs", "report"],
-            &["budget", "start"],
-        ),
-        _ => return None,
-    };
-    Some(Arguments {
-        positionals,
-        options,
-    })
-}
-
-/// A command that takes no request for help or for a version.
+// A command that takes no request for help or for a version.
 fn plain_command<'a>(alloc: Global, name: &'a str) -> Command<'a>
     ensures { app_of result ≡ app_named name.entry.now }
 {
@@ -58,7 +19,7 @@ fn plain_command<'a>(alloc: Global, name: &'a str) -> Command<'a>
         .disable_version_flag(true)
 }
 
-/// A positional argument that has to be there, or an option with one value, which may be left out.
+// A positional argument that has to be there, or an option with one value, which may be left out.
 fn argument<'a>(alloc: Global, id: &'a str, is_option: bool) -> Arg<'a>
     ensures rule { rule_of result ≡ rule_for is_option id.entry.now }
     ensures local { result.global ≡ false }
@@ -70,7 +31,7 @@ fn argument<'a>(alloc: Global, id: &'a str, is_option: bool) -> Arg<'a>
     }
 }
 
-/// The command with these arguments after its own.
+// The command with these arguments after its own.
 fn with_arguments<'a>(
     alloc: Global,
     command: Command<'a>,
@@ -87,13 +48,13 @@ fn with_arguments<'a>(
     Ok(command)
 }
 
-/// The command of this name with these arguments.
+// The command of this name with these arguments.
 fn command_with<'a>(
     alloc: Global,
     name: &'a str,
     arguments: Arguments,
 ) -> Result<Command<'a>, AllocError>
-    ensures { IfOk result (λ c. app_of c ≡ app_with name.entry.now (form_of arguments)) }
+    ensures { IfOk result (λ c. app_of c ≡ app_with name.entry.now (arguments_form arguments)) }
 {
     let command = with_arguments(
         alloc,

@@ -1,9 +1,15 @@
-//! What words ask for.
-ghost use Rattle.std.specs.Prelude.{◌≡◌};
+//! What words ask for, and how what several files and options say is read.
+ghost use Rattle.std.specs.Prelude.{◌≡◌, IfOk, codes};
+ghost use Rattle.clap.specs.Words.{first_of, found_of, rows_of};
+ghost use Rattle.ht_asked.specs.Commands.{deep_of};
+ghost use Rattle.ht_words.specs.Jobs.{IsReadAs, Hears, files_in, numbers_by, numbers_in, run_names};
 ghost use Rattle.ht_words.specs.declared.job.WordsFault.TheVariants as fault;
 
 use crate::file_name::FileName;
-use std::alloc::AllocError;
+use crate::number::{budget, random, seed};
+use crate::value::{given_text, optional_value, value};
+use clap::ArgMatches;
+use std::alloc::{AllocError, Global};
 use thiserror::Error;
 
 /// The names of a netlist and of the three files of a search for it.
@@ -38,6 +44,28 @@ pub struct GenOptions {
     pub weighted: u32,
     /// Whether the search is deep.
     pub deep: bool,
+}
+
+/// The names of the files of `breed`.
+#[derive(Debug, Drop)]
+pub struct BreedFiles {
+    /// The netlist to read.
+    pub netlist: FileName,
+    /// The tests to read.
+    pub tests: FileName,
+    /// The tests to write.
+    pub out: FileName,
+}
+
+/// What the options of `breed` say.
+#[derive(Debug, Drop)]
+pub struct BreedOptions {
+    /// How many vectors are bred at most, 0 to 100,000.
+    pub vectors: u32,
+    /// The seed of the bred vectors.
+    pub seed: u64,
+    /// The start to read, if one is stated.
+    pub start: Option<FileName>,
 }
 
 /// A command with the names of its files, and with its numbers.
@@ -135,6 +163,13 @@ pub enum Job {
         /// The start to read, if one is stated.
         start: Option<FileName>,
     },
+    /// Writes the tests, and then vectors that are bred after them.
+    Breed {
+        /// The netlist and the tests to read, and the tests to write.
+        files: BreedFiles,
+        /// What the options say.
+        options: BreedOptions,
+    },
     /// Writes the report that the tests and the proofs justify.
     Report {
         /// The netlist, the tests and the proofs to read, and the report to write.
@@ -162,5 +197,62 @@ impl From<AllocError> for WordsFault {
 
     fn from(_: AllocError) -> WordsFault {
         WordsFault::NoMemory
+    }
+}
+
+/// The names of the files of a run.
+pub fn run_files(alloc: Global, matches: &ArgMatches<'_>) -> Result<RunFiles, WordsFault>
+    ensures { IsReadAs (files_in (rows_of (found_of matches.now))) run_names result }
+{
+    let netlist = value(alloc, matches, "netlist")?;
+    let tests = value(alloc, matches, "tests")?;
+    let report = value(alloc, matches, "report")?;
+    let proofs = value(alloc, matches, "proofs")?;
+    Ok(RunFiles {
+        netlist,
+        tests,
+        report,
+        proofs,
+    })
+}
+
+/// The options of `gen`. The numbers are asked first, while nothing is owned.
+pub fn gen_options(alloc: Global, matches: &ArgMatches<'_>) -> Result<GenOptions, WordsFault>
+    ensures numbers { IsReadAs (numbers_in (rows_of (found_of matches.now))) numbers_by result }
+    ensures start { IfOk result
+        (λ o. first_of (codes "start") (rows_of (found_of matches.now)) ≡ o.start) }
+    ensures first { IfOk result
+        (λ o. first_of (codes "first") (rows_of (found_of matches.now)) ≡ o.first) }
+    ensures faults { IfOk result
+        (λ o. first_of (codes "faults") (rows_of (found_of matches.now)) ≡ o.faults) }
+{
+    let budget = budget(matches)?;
+    let random_count = random(matches, "random")?;
+    let seed = seed(matches)?;
+    let weighted = random(matches, "weighted")?;
+    let deep = deep(matches)?;
+    Ok(GenOptions {
+        budget,
+        random: random_count,
+        seed,
+        start: optional_value(alloc, matches, "start")?,
+        first: optional_value(alloc, matches, "first")?,
+        faults: optional_value(alloc, matches, "faults")?,
+        weighted,
+        deep,
+    })
+}
+
+// Whether the search is deep: the option's value is `plain` or `deep`.
+fn deep(matches: &ArgMatches<'_>) -> Result<bool, WordsFault>
+    ensures { Hears (deep_of (first_of (codes "search") (rows_of (found_of matches.now)))) result }
+{
+    let Some(text) = given_text(matches, "search") else {
+        return Ok(false);
+    };
+    match text {
+        "plain" => Ok(false),
+        "deep" => Ok(true),
+        _ => Err(WordsFault::Usage),
     }
 }

@@ -1,23 +1,23 @@
 //! Numbers among the words: as their text, and as the values that `clap` found.
 ghost use Rattle.std.specs.Prelude.{codes, option_and_then};
 ghost use Rattle.clap.specs.Words.{first_of, found_of, rows_of};
-ghost use Rattle.ht_asked.specs.Commands.{budget_of, fault_of, random_of, seed_of};
+ghost use Rattle.ht_asked.specs.Commands.{bred_of, budget_of, fault_of, random_of, seed_of};
 ghost use Rattle.ht_asked.specs.declared.limits.TheConstants as limit;
 ghost use Rattle.ht_asked.specs.Numbers.{number_in, number_or};
-ghost use Rattle.ht_words.specs.Jobs.{Reads};
+ghost use Rattle.ht_words.specs.Jobs.{Hears};
 
 use crate::job::WordsFault;
 use crate::value::given_text;
 use clap::ArgMatches;
 use ht_asked::{
-    DEFAULT_BUDGET, DEFAULT_RANDOM, DEFAULT_SEED, MAX_BUDGET, MAX_FAULT, MAX_RANDOM, MAX_SEED,
-    MAX_SIZE, MIN_BUDGET, MIN_FAULT, MIN_SIZE,
+    DEFAULT_BRED, DEFAULT_BUDGET, DEFAULT_RANDOM, DEFAULT_SEED, MAX_BRED, MAX_BUDGET, MAX_FAULT,
+    MAX_RANDOM, MAX_SEED, MAX_SIZE, MIN_BUDGET, MIN_FAULT, MIN_SIZE,
 };
 
 /// The number that the text writes in the digits `0` to `9` and nothing else, where it is one from the least to the
 /// most. Leading zeros don't matter.
 fn read_number(text: &str, least: u64, most: u64) -> Result<u64, WordsFault>
-    ensures { Reads (number_in least most text.now) result }
+    ensures { Hears (number_in least most text.now) result }
 {
     // `parse` takes a plus, and a word of digits has none.
     if text.starts_with('+') {
@@ -39,7 +39,7 @@ pub fn wanted_number(
     least: u64,
     most: u64,
 ) -> Result<u64, WordsFault>
-    ensures { Reads (option_and_then (number_in least most)
+    ensures { Hears (option_and_then (number_in least most)
         (first_of id.now (rows_of (found_of matches.now)))) result }
 {
     match given_text(matches, id) {
@@ -56,7 +56,7 @@ fn number_or_default(
     least: u64,
     most: u64,
 ) -> Result<u64, WordsFault>
-    ensures { Reads (number_or default least most
+    ensures { Hears (number_or default least most
         (first_of id.now (rows_of (found_of matches.now)))) result }
 {
     match given_text(matches, id) {
@@ -67,7 +67,7 @@ fn number_or_default(
 
 /// The budget of each search.
 pub fn budget(matches: &ArgMatches<'_>) -> Result<u64, WordsFault>
-    ensures { Reads (budget_of (first_of (codes "budget") (rows_of (found_of matches.now))))
+    ensures { Hears (budget_of (first_of (codes "budget") (rows_of (found_of matches.now))))
         result }
 {
     number_or_default(matches, "budget", DEFAULT_BUDGET, MIN_BUDGET, MAX_BUDGET)
@@ -75,22 +75,30 @@ pub fn budget(matches: &ArgMatches<'_>) -> Result<u64, WordsFault>
 
 /// How many random vectors come first, or how many weighted ones after them, as the option of this name says.
 pub fn random(matches: &ArgMatches<'_>, id: &str) -> Result<u32, WordsFault>
-    ensures { Reads (random_of (first_of id.now (rows_of (found_of matches.now)))) result }
+    ensures { Hears (random_of (first_of id.now (rows_of (found_of matches.now)))) result }
 {
     let number = number_or_default(matches, id, DEFAULT_RANDOM, 0, MAX_RANDOM)?;
     Ok(number as u32)
 }
 
-/// The seed of the random and the weighted vectors.
+/// How many vectors are bred at most.
+pub fn bred(matches: &ArgMatches<'_>) -> Result<u32, WordsFault>
+    ensures { Hears (bred_of (first_of (codes "vectors") (rows_of (found_of matches.now)))) result }
+{
+    let number = number_or_default(matches, "vectors", DEFAULT_BRED, 0, MAX_BRED)?;
+    Ok(number as u32)
+}
+
+/// The seed of the random, the weighted and the bred vectors.
 pub fn seed(matches: &ArgMatches<'_>) -> Result<u64, WordsFault>
-    ensures { Reads (seed_of (first_of (codes "seed") (rows_of (found_of matches.now)))) result }
+    ensures { Hears (seed_of (first_of (codes "seed") (rows_of (found_of matches.now)))) result }
 {
     number_or_default(matches, "seed", DEFAULT_SEED, 0, MAX_SEED)
 }
 
 /// The number of a fault, if one is given.
 pub fn fault_number(matches: &ArgMatches<'_>) -> Result<Option<u32>, WordsFault>
-    ensures { Reads (fault_of (first_of (codes "fault") (rows_of (found_of matches.now)))) result }
+    ensures { Hears (fault_of (first_of (codes "fault") (rows_of (found_of matches.now)))) result }
 {
     match given_text(matches, "fault") {
         Some(text) => Ok(Some(read_number(text, MIN_FAULT, MAX_FAULT)? as u32)),
@@ -100,7 +108,7 @@ pub fn fault_number(matches: &ArgMatches<'_>) -> Result<Option<u32>, WordsFault>
 
 /// The size of a demonstration netlist.
 pub fn size(matches: &ArgMatches<'_>) -> Result<u32, WordsFault>
-    ensures { Reads (option_and_then (number_in limit.MIN_SIZE limit.MAX_SIZE)
+    ensures { Hears (option_and_then (number_in limit.MIN_SIZE limit.MAX_SIZE)
         (first_of (codes "size") (rows_of (found_of matches.now)))) result }
 {
     let number = wanted_number(matches, "size", MIN_SIZE, MAX_SIZE)?;

@@ -1,7 +1,7 @@
 //! The values of the arguments, as `clap` found them.
 ghost use Rattle.std.specs.Prelude.{◌≡◌, ◌≢◌, IfOk, option_map};
 ghost use Rattle.clap.specs.Words.{first_of, found_of, rows_of};
-ghost use Rattle.ht_words.specs.Jobs.{Reads};
+ghost use Rattle.ht_words.specs.Jobs.{Hears};
 ghost use Rattle.ht_words.specs.declared.job.WordsFault.TheVariants as fault;
 
 use crate::file_name::FileName;
@@ -34,7 +34,7 @@ pub fn optional_value(
 
 /// The file name of an argument that has to be there.
 pub fn value(alloc: Global, matches: &ArgMatches<'_>, id: &str) -> Result<FileName, WordsFault>
-    ensures { Reads (first_of id.now (rows_of (found_of matches.now))) result }
+    ensures { Hears (first_of id.now (rows_of (found_of matches.now))) result }
 {
     optional_value(alloc, matches, id)?.ok_or(WordsFault::Usage)
 }

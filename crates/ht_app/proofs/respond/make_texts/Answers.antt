@@ -1,16 +1,13 @@
-use Rattle.std.proofs.Common.{◌≡◌, ◌≤◌, List, [], ℕ, Bool, refl, rules, arith}
+use Rattle.std.proofs.Common.{◌≡◌, ◌≤◌, List, [], ℕ, refl, rules, arith}
 use Rattle.std.proofs.lemmas.Result.{IfOk-weaker}
 use Rattle.std.specs.Prelude.{None, Option}
-use Rattle.ht_app.proofs.Common.{Extra, HasReadTo, InPort, SaysBasis, Tern, input_name, order_of}
+use Rattle.ht_app.proofs.Common.{Extra, InPort, SaysBasis, input_name, order_of}
 use Rattle.ht_ports.specs.declared.ports.InPort.TheVariants.{Netlist, Tests}
-use Rattle.ht_net.specs.Detect.Detection.{unknown_state}
 use Rattle.ht_inputs.proofs.FaultLaws.{fault_ends}
 use Rattle.ht_app.proofs.UnlistedLaws.{machine_listed}
 use Rattle.ht_inputs.proofs.ReadingLaws.{basis_from, basis_of, one_more, read_so, stops_there, tests_stop}
 use Rattle.ht_app.proofs.PreparedLaws.{prepares}
-use Rattle.ht_app.proofs.respond.make_texts.Given as given
 use Rattle.ht_app.proofs.respond.make_texts.Goals as goal
-use Rattle.ht_app.proofs.respond.make_texts.Goals.{In_ok-circuit, In_ok-list, In_ok-start}
 use Rattle.ht_words.specs.Jobs.{asked_by}
 use Rattle.ht_words.specs.declared.job.Job.TheVariants as job_of
 
@@ -22,39 +19,6 @@ no_more netlist tests out number start Extra late = absurd (omega (arith, late))
 no_more netlist tests out number start Tests late = absurd (omega (arith, late))
 no_more netlist tests out number start p late = refl
 
-reads : (g : given.Over) (c : In_ok-circuit g) (out : List ℕ) (start : List Tern) (list : List (List Bool))
-    → (c.args.start.now ≡ None → start ≡ unknown_state c.in_ok-circuit.circuit)
-    → HasReadTo (asked_by (job_of.Respond c.args.netlist.now c.args.tests.now out c.args.number c.args.start.now))
-    (basis_from c.in_ok-circuit.circuit start list []) 1
-    (g.D.Desk.view c.args.desk.now) (g.D.Desk.view c.read_netlist.new.desk)
-reads g c out start list stated = c.in_ok-circuit.ensures.read
-    (asked_by (job_of.Respond c.args.netlist.now c.args.tests.now out c.args.number c.args.start.now))
-    (basis_from c.in_ok-circuit.circuit start list []) refl stated refl (λ text good. good)
-
-start_reads : (g : given.Over) (c : In_ok-start g) (out : List ℕ) (list : List (List Bool))
-    → HasReadTo (asked_by (job_of.Respond c.args.netlist.now c.args.tests.now out c.args.number c.args.start.now))
-    (basis_from c.in_ok-circuit.circuit c.in_ok-start.start.items list []) 2 (g.D.Desk.view c.args.desk.now)
-    (g.D.Desk.view c.read_stated.new.desk)
-start_reads g c out list =
-    let before = reads g (goal.at.In_ok-start g c).In_ok-circuit out c.in_ok-start.start.items list
-    c.in_ok-start.ensures.unstated in
-    c.in_ok-start.ensures.read (asked_by (job_of.Respond c.args.netlist.now c.args.tests.now out c.args.number
-    c.args.start.now))
-    (basis_from c.in_ok-circuit.circuit c.in_ok-start.start.items list []) (g.D.Desk.view c.args.desk.now) refl refl
-    refl before refl
-
-all_reads : (g : given.Over) (c : In_ok-list g) (out : List ℕ)
-    → HasReadTo (asked_by (job_of.Respond c.args.netlist.now c.args.tests.now out c.args.number c.args.start.now))
-    (basis_from c.in_ok-circuit.circuit c.in_ok-start.start.items c.in_ok-list.list.list []) 3
-    (g.D.Desk.view c.args.desk.now) (g.D.Desk.view c.read_tests.new.desk)
-all_reads g c out =
-    let before = start_reads g (goal.at.In_ok-list g c).In_ok-start out c.in_ok-list.list.list in
-    one_more before refl refl c.in_ok-list.ensures.frame c.in_ok-circuit.ensures.netlist
-    (read_so (SaysBasis (asked_by (job_of.Respond c.args.netlist.now c.args.tests.now out c.args.number
-    c.args.start.now))
-    (basis_from c.in_ok-circuit.circuit c.in_ok-start.start.items c.in_ok-list.list.list []) Tests)
-    (λ text are. are.all (omega (arith, c.in_ok-list.ensures.few))) c.in_ok-list.ensures.read)
-
 pub returns-in_err-circuit : goal.returns-in_err-circuit
 returns-in_err-circuit g c = λ out.
     let ends = c.in_err-circuit.ensures.stops
@@ -63,33 +27,42 @@ returns-in_err-circuit g c = λ out.
 
 pub returns-in_err-start : goal.returns-in_err-start
 returns-in_err-start g c = λ out.
-    let before = reads g (goal.at.returns-in_err-start g c).In_ok-circuit out
-    (unknown_state c.in_ok-circuit.circuit) [] (λ none. refl) in
-    let ends = c.in_err-start.ensures.stopped
-    (asked_by (job_of.Respond c.args.netlist.now c.args.tests.now out c.args.number c.args.start.now))
-    (basis_of c.in_ok-circuit.circuit [] []) (g.D.Desk.view c.args.desk.now) refl refl refl before in
+    let job = asked_by (job_of.Respond c.args.netlist.now c.args.tests.now out c.args.number c.args.start.now) in
+    let basis = basis_of c.in_ok-circuit.circuit [] [] in
+    let before = c.in_ok-circuit.ensures.read job basis refl (λ none. refl) refl (λ text good. good) in
+    let ends = c.in_err-start.ensures.stopped job basis (g.D.Desk.view c.args.desk.now) refl refl refl before in
     record { made = search rules; stopped = search (rules, ends) }
 
 pub returns-in_err-fault : goal.returns-in_err-fault
 returns-in_err-fault g c = λ out.
-    let before = start_reads g (goal.at.returns-in_err-fault g c).In_ok-start out [] in
-    let ends = fault_ends refl before
-    c.in_err-fault.field-0.0 c.in_err-fault.ensures.stops in
+    let job = asked_by (job_of.Respond c.args.netlist.now c.args.tests.now out c.args.number c.args.start.now) in
+    let basis = basis_from c.in_ok-circuit.circuit c.in_ok-start.start.items [] [] in
+    let before = c.in_ok-start.ensures.read job basis (g.D.Desk.view c.args.desk.now) refl refl refl
+    (c.in_ok-circuit.ensures.read job basis refl c.in_ok-start.ensures.unstated refl (λ text good. good)) refl in
+    let ends = fault_ends refl before c.in_err-fault.field-0.0 c.in_err-fault.ensures.stops in
     record { made = search rules; stopped = search (rules, ends) }
 
 pub returns-in_err-list : goal.returns-in_err-list
 returns-in_err-list g c = λ out.
-    let before = start_reads g (goal.at.returns-in_err-list g c).In_ok-start out [] in
+    let job = asked_by (job_of.Respond c.args.netlist.now c.args.tests.now out c.args.number c.args.start.now) in
+    let basis = basis_from c.in_ok-circuit.circuit c.in_ok-start.start.items [] [] in
+    let before = c.in_ok-start.ensures.read job basis (g.D.Desk.view c.args.desk.now) refl refl refl
+    (c.in_ok-circuit.ensures.read job basis refl c.in_ok-start.ensures.unstated refl (λ text good. good)) refl in
     let listed = machine_listed c.in_ok-circuit.circuit c.args.number c.in_ok-fault.fault c.in_ok-fault.ensures.machine
     in
     let ends = stops_there before refl refl c.in_err-list.ensures.frame (λ is. listed) c.in_err-list.field-0.0
-    (tests_stop (asked_by (job_of.Respond c.args.netlist.now c.args.tests.now out c.args.number c.args.start.now))
-    (basis_from c.in_ok-circuit.circuit c.in_ok-start.start.items [] []) _ _ _ _
-    (λ line. refl) (λ line text early wrong. wrong) _ c.in_err-list.ensures.stops) in
+    (tests_stop job basis _ _ _ _ (λ line. refl) (λ line text early wrong. wrong) _ c.in_err-list.ensures.stops) in
     record { made = search rules; stopped = search (rules, ends) }
 
 pub returns : goal.returns
-returns g c = λ out. prepares (all_reads g (goal.at.returns g c).In_ok-list out) _ _ _
+returns g c = λ out.
+    let job = asked_by (job_of.Respond c.args.netlist.now c.args.tests.now out c.args.number c.args.start.now) in
+    let basis = basis_from c.in_ok-circuit.circuit c.in_ok-start.start.items c.in_ok-list.list.list [] in
+    let before = c.in_ok-start.ensures.read job basis (g.D.Desk.view c.args.desk.now) refl refl refl
+    (c.in_ok-circuit.ensures.read job basis refl c.in_ok-start.ensures.unstated refl (λ text good. good)) refl in
+    prepares (one_more before refl refl c.in_ok-list.ensures.frame c.in_ok-circuit.ensures.netlist
+    (read_so (SaysBasis job basis Tests) (λ text are. are.all (omega (arith, c.in_ok-list.ensures.few)))
+    c.in_ok-list.ensures.read)) _ _ _
     (no_more c.args.netlist.now c.args.tests.now out c.args.number c.args.start.now) c.in_ok-circuit.ensures.netlist
     c.in_ok-start.ensures.latches c.in_ok-list.ensures.widths c.or_no_memory.ensures
     (IfOk-weaker c.response_texts-made.result _ _ (λ texts are. (

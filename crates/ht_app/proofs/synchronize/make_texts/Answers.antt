@@ -1,23 +1,14 @@
 use Rattle.std.proofs.Common.{◌≡◌, ◌≤◌, List, [], ℕ, refl, rules, arith}
 use Rattle.std.proofs.lemmas.Result.{IfOk-weaker}
 use Rattle.std.specs.Prelude.{None}
-use Rattle.ht_app.proofs.Common.{HasReadTo, InPort, input_name, order_of}
+use Rattle.ht_app.proofs.Common.{InPort, input_name, order_of}
 use Rattle.ht_ports.specs.declared.ports.InPort.TheVariants.{Netlist}
 use Rattle.ht_inputs.proofs.ReadingLaws.{basis_of}
 use Rattle.ht_net.proofs.MoreToldLaws.{unknown_is_start}
 use Rattle.ht_app.proofs.PreparedLaws.{no_vectors, prepares}
-use Rattle.ht_app.proofs.synchronize.make_texts.Given as given
 use Rattle.ht_app.proofs.synchronize.make_texts.Goals as goal
-use Rattle.ht_app.proofs.synchronize.make_texts.Goals.{In_ok-circuit}
 use Rattle.ht_words.specs.Jobs.{asked_by}
 use Rattle.ht_words.specs.declared.job.Job.TheVariants as job_of
-
-reads : (g : given.Over) (c : In_ok-circuit g) (tests out : List ℕ)
-    → HasReadTo (asked_by (job_of.Sync c.args.netlist.now tests out c.args.budget))
-    (basis_of c.in_ok-circuit.circuit [] []) 1
-    (g.D.Desk.view c.args.desk.now) (g.D.Desk.view c.read_netlist.new.desk)
-reads g c tests out = c.in_ok-circuit.ensures.read (asked_by (job_of.Sync c.args.netlist.now tests out c.args.budget))
-    (basis_of c.in_ok-circuit.circuit [] []) refl (λ none. refl) refl (λ text good. good)
 
 no_more : (netlist tests out : List ℕ) (budget : ℕ) (p : InPort)
     → 1 ≤ order_of (asked_by (job_of.Sync netlist tests out budget)) p → input_name
@@ -32,7 +23,9 @@ returns-in_err-circuit g c = λ tests out.
     record { made = search rules; stopped = search (rules, ends) }
 
 pub returns : goal.returns
-returns g c = λ tests out. prepares (reads g (goal.at.returns g c).In_ok-circuit tests out) _ _ _
+returns g c = λ tests out. prepares (c.in_ok-circuit.ensures.read
+    (asked_by (job_of.Sync c.args.netlist.now tests out c.args.budget)) (basis_of c.in_ok-circuit.circuit [] []) refl
+    (λ none. refl) refl (λ text good. good)) _ _ _
     (no_more c.args.netlist.now tests out c.args.budget) c.in_ok-circuit.ensures.netlist
     (unknown_is_start c.in_ok-circuit.circuit) (no_vectors c.in_ok-circuit.circuit) c.or_no_memory.ensures
     (IfOk-weaker c.sync_texts-made.result _ _

@@ -6,4 +6,4 @@ use Rattle.ht_bred.proofs.bred.breed_bursts.Given as goal
 abbrev pub invariant-loop-burst : goal.invariant-loop-burst
 invariant-loop-burst l =
     AreExtended l.initial.grader l.grader l.initial.vectors.list l.initial.vectors l.vectors l.count
-    × (l.count ≤ l.most) × (l.breeder ≡ l.initial.breeder)
+    × (l.count ≤ l.most) × (l.bursts ≡ l.initial.bursts)

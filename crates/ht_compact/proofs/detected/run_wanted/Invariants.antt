@@ -1,6 +1,5 @@
-use Rattle.std.proofs.Common.{take}
-use Rattle.ht_compact.specs.DetectedFaults.{AreDetections}
+use Rattle.ht_compact.specs.DetectedFaults.{AreDetectedBelow}
 use Rattle.ht_compact.proofs.detected.run_wanted.Given as goal
 
 abbrev pub invariant-loop-k : goal.invariant-loop-k
-invariant-loop-k l = AreDetections l.fn.grader.circuit (take l.k l.wanted) l.list.list l.detected.items
+invariant-loop-k l = AreDetectedBelow l.fn.grader.circuit l.list.list l.wanted l.found.items l.k

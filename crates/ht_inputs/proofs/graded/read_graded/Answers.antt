@@ -7,7 +7,7 @@ use Rattle.ht_net.specs.Detect.Detection.{unknown_state}
 use Rattle.ht_words.specs.declared.job.RunFiles.{RunFiles}
 use Rattle.ht_inputs.specs.declared.run_error.RunError.TheVariants.{NoMemory}
 use Rattle.ht_inputs.specs.Grading.{JudgesFiles}
-use Rattle.ht_inputs.specs.Jobs.{place_of, start_name}
+use Rattle.ht_inputs.specs.Jobs.{turn_of, start_name}
 use Rattle.ht_inputs.specs.Judging.{judged_basis}
 use Rattle.ht_inputs.proofs.ReadingLaws.{nothing_read, one_more, read_so, stops_there}
 use Rattle.ht_inputs.proofs.graded.read_graded.Given as given
@@ -54,7 +54,7 @@ module _ (g : given.Over) (job : Asked) where
   vectors_read c is follows content start list =
       let basis = judged_basis follows c.in_ok-circuit.circuit c.in_ok-listed.listed.classes content in
       one_more (start_read (goal.at.In_ok-places g c).In_ok-start is follows content start)
-      (ap (place_of Tests) is.may_start) (is.tests ∙ ap Some (sym c.as_str-2.ensures)) c.in_ok-places.ensures.frame
+      (ap (turn_of Tests) is.may_start) (is.tests ∙ ap Some (sym c.as_str-2.ensures)) c.in_ok-places.ensures.frame
       c.in_ok-circuit.ensures.netlist
       (read_so (SaysBasis job basis Tests) (λ text good. is.vectors basis text
       (subst (λ (l : List (List Bool)). IsTestText c.in_ok-circuit.circuit text l) (sym list) good))
@@ -89,8 +89,9 @@ returns-in_err-start-clause-stopped g c = λ job is.
 pub returns-in_err-places-clause-stopped : goal.returns-in_err-places-clause-stopped
 returns-in_err-places-clause-stopped g c = λ job is.
     let content = said c.in_ok-start.start.items [] in
-    let before = start_read g job (goal.at.returns-in_err-places-clause-stopped g c).In_ok-start is false content refl in
-    let ends = stops_there before (ap (place_of Tests) is.may_start) (is.tests ∙ ap Some (sym c.as_str-2.ensures))
+    let before = start_read g job (goal.at.returns-in_err-places-clause-stopped g c).In_ok-start is false content refl
+    in
+    let ends = stops_there before (ap (turn_of Tests) is.may_start) (is.tests ∙ ap Some (sym c.as_str-2.ensures))
     c.in_err-places.ensures.frame (λ same. is.fault c.in_ok-circuit.circuit) c.in_err-places.field-0.0
     (c.in_err-places.ensures.stops job
     (judged_basis false c.in_ok-circuit.circuit c.in_ok-listed.listed.classes content) is.denies refl) in

@@ -61,7 +61,8 @@ lines-preserved g c =
           let number : c.lines.number + 1 ≡ length t.lines + 1 = omega (arith, t.counted, before.counts) in
           let within : c.lines.number + 1 ≤ max_text_bytes =
           omega (arith, before.counts, before.below, gives.some, gives.bytes_read, gives.fits) in
-          takes_more t gives (g.J.LineJudge.stands c.take.new.self basis) (took.stands basis t.lines t.stands number within)
+          takes_more t gives (g.J.LineJudge.stands c.take.new.self basis)
+          (took.stands basis t.lines t.stands number within)
           (took.fine basis t.lines t.stands number within);
     }
 
@@ -85,7 +86,8 @@ returns-in-Ok-None-clause-stands g c = λ basis stands.
     let before = c.lines.invariant in
     let none = next_none c.next.follows.holds-at-none c.in-Ok-None.is c.in-Ok-None.field-0-is in
     let t = before.so_far basis stands in
-    takes_all t c.args.most none before.below before.fits (omega (arith, t.counted, before.counts, before.upto)) before.there
+    takes_all t c.args.most none before.below before.fits (omega (arith, t.counted, before.counts, before.upto))
+    before.there
 
 pub returns-in-Err-TooLong-clause-stops : goal.returns-in-Err-TooLong-clause-stops
 returns-in-Err-TooLong-clause-stops g c = λ basis stands.

@@ -1,5 +1,5 @@
 use Rattle.std.proofs.Common.{◌≡◌, ◌+◌, ◌-◌, ◌≤◌, [], IsTrue}
-use Rattle.ht_inputs.proofs.Common.{InCall, JobBasis, MayHold, max_text_bytes}
+use Rattle.ht_inputs.proofs.Common.{InCall, JobBasis, MayBeHeld, max_text_bytes}
 use Rattle.ht_inputs.proofs.JudgedLaws.{Takes}
 use Rattle.ht_inputs.proofs.judged_file.read_lines.Given as goal
 
@@ -11,7 +11,7 @@ invariant-lines g l = record {
   judges : g.J.LineJudge.live l.judge;
   open_now : IsTrue ((g.D.Desk.view l.desk).is_open l.fn.port);
   frame : InCall l.fn.port (g.D.Desk.view l.fn.desk) (g.D.Desk.view l.desk);
-  there : MayHold (g.D.Desk.view l.fn.desk) l.name;
+  there : MayBeHeld (g.D.Desk.view l.fn.desk) l.name;
   below : l.lines.lines_read ≤ l.lines.bytes_read;
   fits : l.lines.bytes_read ≤ max_text_bytes;
   counts : l.number ≡ l.lines.lines_read;

@@ -6,7 +6,7 @@ use Rattle.ht_ports.specs.declared.ports.InPort.TheVariants.{Netlist, Tests}
 use Rattle.ht_inputs.specs.Errors.{run_error_of}
 use Rattle.std.specs.Prelude.{Bool, false, true}
 use Rattle.ht_inputs.specs.Inputs.{IsStated}
-use Rattle.ht_inputs.specs.Jobs.{may_state_start, place_of}
+use Rattle.ht_inputs.specs.Jobs.{may_state_start, turn_of}
 use Rattle.ht_inputs.proofs.ReadingLaws.{basis_of, no_circuit, nothing_read, one_more, read_so, stops_there}
 use Rattle.ht_inputs.proofs.netlist.read_netlist.Goals.{In_ok-circuit, Start}
 use Rattle.ht_bench.specs.declared.error.BenchError.{BenchError}
@@ -38,7 +38,7 @@ module _ (name : List ℕ) (a b : DeskView) (text : List ℕ) (job : Asked) (bas
   netlist_refused error vain = (refl, refuses error (λ e. cc) vain vain.none)
 
 -- no fault has to be found before the netlist
-not_tests : {A : Type 0} (starts : Bool) → place_of Tests starts ≤ 0 → A
+not_tests : {A : Type 0} (starts : Bool) → turn_of Tests starts ≤ 0 → A
 not_tests true late = absurd (omega (arith, late))
 not_tests false late = absurd (omega (arith, late))
 

@@ -61,7 +61,8 @@ returns-clause-followed g c = λ content begins.
     let v = c.args.judge in
     let now = c.read_lines-read.new.judge in
     let claims = c.in_ok-claims.field-0 in
-    let read = taken g (goal.at.returns-clause-followed g c).In_ok-read (report_basis v.circuit v.representatives content)
+    let read = taken g (goal.at.returns-clause-followed g c).In_ok-read
+    (report_basis v.circuit v.representatives content)
     (record { circuit = refl; representatives = refl; judges = begins }) in
     let budget = subst (λ (r : Result Claims JudgeError). IfOk r (λ claims. claims.budget ≡ now.budget))
     c.in_ok-claims.was c.end-claims.ensures.budget in

@@ -1,7 +1,7 @@
 use Rattle.std.proofs.Common.{◌≡◌, [], List, ◌∙◌, ap, subst, sym, rules}
 use Rattle.ht_inputs.proofs.Common.{Content, Numbered, before_proofs, check_basis}
 use Rattle.std.specs.Prelude.{None, Some, if◌then◌else◌}
-use Rattle.ht_asked.specs.Asked.{Kind, check}
+use Rattle.ht_asked.specs.Table.{Kind, check}
 use Rattle.ht_ports.specs.declared.ports.InPort.TheVariants.{Proofs}
 use Rattle.ht_valid.specs.FirstTrouble.{IsFirstFault, IsFirstProofLine}
 use Rattle.ht_inputs.specs.Jobs.{judges}

@@ -3,7 +3,7 @@ use Rattle.std.specs.Prelude.{IfOk, None, Some, if◌then◌else◌}
 use Rattle.std.proofs.lemmas.Result.{IfErr-weaker}
 use Rattle.ht_inputs.proofs.Common.{AreFirstDetections, Content, ReadStops, Tern, before_proofs}
 use Rattle.ht_ports.specs.declared.ports.InPort.TheVariants.{Proofs}
-use Rattle.ht_asked.specs.Asked.{Kind, report}
+use Rattle.ht_asked.specs.Table.{Kind, report}
 use Rattle.ht_inputs.specs.Jobs.{judges}
 use Rattle.ht_inputs.specs.Refusals.{IsTroubleFor}
 use Rattle.ht_net.specs.declared.place.Place.{Place}

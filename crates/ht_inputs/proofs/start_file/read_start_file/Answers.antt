@@ -65,6 +65,7 @@ returns-clause-stops g c = λ job basis may same.
     let Stops = ReadStops job basis Extra c.args.name.now (g.D.Desk.view c.args.desk.now)
     (g.D.Desk.view c.read_lines.new.desk) in
     IfErr-weaker c.whole.result _ Stops (λ e missing. subst Stops (sym missing.1)
-    (start_ends job may basis c.args.name.now (g.D.Desk.view c.args.desk.now) (g.D.Desk.view c.read_lines.new.desk) read.lines
+    (start_ends job may basis c.args.name.now (g.D.Desk.view c.args.desk.now) (g.D.Desk.view c.read_lines.new.desk)
+    read.lines
     (whole_file read) (none_of basis read.lines c.read_lines.new.judge.start read.stands.1 missing.0)))
     c.whole.ensures.none

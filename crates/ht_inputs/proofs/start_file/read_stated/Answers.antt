@@ -1,7 +1,7 @@
 use Rattle.std.proofs.Common.{◌∙◌, ap, length, sym, rules, arith}
 use Rattle.std.specs.Prelude.{Some}
 use Rattle.ht_inputs.proofs.Common.{Extra}
-use Rattle.ht_inputs.specs.Jobs.{place_of}
+use Rattle.ht_inputs.specs.Jobs.{turn_of}
 use Rattle.ht_inputs.proofs.ReadingLaws.{no_room, skipped}
 use Rattle.ht_inputs.proofs.StartFileLaws.{start_step, step_stops}
 use Rattle.ht_inputs.proofs.start_file.read_stated.Goals as goal
@@ -23,7 +23,7 @@ returns-in-Some-clause-stopped g c = λ job basis first may reads same before.
 
 pub returns-in_ok-unknown_start-in-None-clause-read : goal.returns-in_ok-unknown_start-in-None-clause-read
 returns-in_ok-unknown_start-in-None-clause-read g c = λ job basis first may reads same before from.
-    skipped before Extra (ap (place_of Extra) may) (reads ∙ c.in-None.is) (before.netlist (omega arith))
+    skipped before Extra (ap (turn_of Extra) may) (reads ∙ c.in-None.is) (before.netlist (omega arith))
 
 pub returns-in_err-unknown_start-in-None-clause-stopped : goal.returns-in_err-unknown_start-in-None-clause-stopped
 returns-in_err-unknown_start-in-None-clause-stopped g c = λ job basis first may reads same before.

@@ -1,6 +1,6 @@
 use Rattle.std.proofs.Common.{◌≡◌, ◌≤◌, ◌<◌, ◌+◌, Bool, true, length, refl, ap, subst, sym, rules, arith}
 use Rattle.std.specs.Prelude.{None, Some, if◌then◌else◌}
-use Rattle.ht_asked.specs.Asked.{Kind, compact}
+use Rattle.ht_asked.specs.Table.{Kind, compact}
 use Rattle.ht_net.specs.Circuit.Netlist.{Netlist}
 use Rattle.ht_ports.specs.declared.ports.InPort.TheVariants.{Tests}
 use Rattle.ht_inputs.specs.Jobs.{judges, takes_few}

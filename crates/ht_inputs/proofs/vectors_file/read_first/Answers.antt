@@ -4,18 +4,18 @@ use Rattle.ht_ports.specs.declared.ports.InPort.TheVariants.{Tests}
 use Rattle.ht_net.specs.Circuit.Netlist.{Netlist}
 use Rattle.ht_inputs.proofs.Common.{Asked, DeskView, EndsReading, HasReadTo, InCall, IsTestText, JobBasis}
 use Rattle.ht_inputs.proofs.Common.{Rows, RunError, SaysBasis, TestsStop, WasRead, input_name, max_text_bytes}
-use Rattle.ht_asked.specs.Asked.{Kind, gen}
-use Rattle.ht_asked.specs.Commands.{takes_start}
+use Rattle.ht_asked.specs.Table.{Kind, gen}
+use Rattle.ht_asked.specs.Table.{takes_start}
 use Rattle.ht_inputs.specs.Inputs.{HasFault, SaysVectors}
-use Rattle.ht_inputs.specs.Jobs.{judges, place_of, takes_few}
+use Rattle.ht_inputs.specs.Jobs.{judges, turn_of, takes_few}
 use Rattle.ht_inputs.specs.Refusals.{IsWrongTest}
 use Rattle.ht_inputs.specs.Reading.{AreVectorsUpTo}
 use Rattle.ht_inputs.proofs.ReadingLaws.{one_more, read_so, skipped, stops_there, tests_stop}
 use Rattle.ht_inputs.proofs.vectors_file.read_first.Goals as goal
 
 -- `gen` reads its first vectors after the start
-at_tests : {kind : Kind} → kind ≡ gen → place_of Tests (takes_start kind) ≡ 2
-at_tests is_gen = ap (λ (k : Kind). place_of Tests (takes_start k)) is_gen
+at_tests : {kind : Kind} → kind ≡ gen → turn_of Tests (takes_start kind) ≡ 2
+at_tests is_gen = ap (λ (k : Kind). turn_of Tests (takes_start k)) is_gen
 
 -- ---- a file is named
 

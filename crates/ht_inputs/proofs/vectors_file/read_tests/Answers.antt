@@ -29,7 +29,8 @@ returns-in_err-read_lines-clause-stops g c =
 -- the reader stands for the lines that were read
 taken : (g : given.Over) (c : In_ok-read_lines g) → StandsForFile
     (StandsForTests c.read_lines.new.judge.list (basis_of c.args.circuit.now [] []))
-    (IsNoVectorLine (basis_of c.args.circuit.now [] [])) c.args.most Tests c.args.name.now (g.D.Desk.view c.args.desk.now)
+    (IsNoVectorLine (basis_of c.args.circuit.now [] [])) c.args.most Tests c.args.name.now
+    (g.D.Desk.view c.args.desk.now)
 taken g c = c.in_ok-read_lines.ensures.stands (basis_of c.args.circuit.now [] [])
     (start g (goal.at.In_ok-read_lines g c).After-new)
 

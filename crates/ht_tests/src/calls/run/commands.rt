@@ -1,4 +1,4 @@
-//! The commands that need few rows: `demo`, `compact`, `diagnose`, `respond`, `uninit` and `sync`.
+//! The commands that need few rows: `demo`, `compact`, `diagnose`, `respond`, `breed`, `uninit` and `sync`.
 
 pub const ROWS: &str = "~run demo 16 3
 ~ends 0
@@ -157,6 +157,37 @@ X
 ~given n < SHIFT_REGISTER
 ~with t 7 tests: line 1
 2
+~# `breed` writes the tests, and after them at most so many vectors: none where all is detected, or there are no inputs
+~run breed n t r --vectors 0
+~given n < SHIFT_REGISTER
+~with t 7 tests: line 3
+1
+0
+2
+~none r
+~with t 0 vectors 3 bred 0 detected 3 of 6
+1
+0
+0~left r
+1
+0
+0
+~run breed n t r
+~given n
+INPUT(a)
+OUTPUT(a)
+~with t 0 vectors 2 bred 0 detected 2 of 2
+1
+0
+~run breed n t r --start s
+~given n < TOGGLE
+~given t
+~with s 8 start: line 1
+2
+~none r
+~with s 0 vectors 0 bred 0 detected 0 of 4
+0
+~left r
 ~# each kind of gate by Kleene's tables, of a known and an unknown argument, and the gates that take one or three
 ~run respond n t r
 ~given n

@@ -11,7 +11,11 @@ use Rattle.ht_app.proofs.generate.steps.write_made.Goals as goal
 -- ---- the end
 
 pub returns-in-Finished-clause-more : goal.returns-in-Finished-clause-more
-returns-in-Finished-clause-more g c = (λ yes. let no : false ≡ true = yes in cc, λ other. absurd (other c.in-Finished.is))
+returns-in-Finished-clause-more g c = (
+  λ yes. let no : false ≡ true = yes in cc,
+  λ other. absurd
+      (other c.in-Finished.is),
+)
 
 pub returns-in-Finished-clause-counted : goal.returns-in-Finished-clause-counted
 returns-in-Finished-clause-counted g c = counts_nothing c.args.sizes.now c.in-Finished.is
@@ -46,12 +50,14 @@ tries_after (Ok done) tries = record { ends = tries.ends }
 tries_after (Err error) tries = record { ends = tries.ends }
 
 pub returns-clause-more : goal.returns-clause-more
-returns-clause-more g c = subst (λ (r : Result Bool RunError). IfOk r (λ more. more ≡ true ↔ c.args.step.now ≢ Finished))
+returns-clause-more g c =
+    subst (λ (r : Result Bool RunError). IfOk r (λ more. more ≡ true ↔ c.args.step.now ≢ Finished))
     (sym c.and.ensures) (more_after c.put_step-written.result c.args.step.now c.in_default.not-Finished)
 
 pub returns-clause-counted : goal.returns-clause-counted
 returns-clause-counted g c =
-    subst (λ (r : Result Bool RunError). OnOk r (CountsStep c.args.step.now c.args.sizes.now c.put_step-written.new.sizes))
+    subst (λ (r : Result Bool RunError). OnOk r
+    (CountsStep c.args.step.now c.args.sizes.now c.put_step-written.new.sizes))
     (sym c.and.ensures) (counted_after c.put_step-written.result _ c.put_step-written.ensures.counted)
 
 pub returns-clause-tries : goal.returns-clause-tries

@@ -1,0 +1,9 @@
+pub mod MemberLaws
+pub mod SetAsideLaws
+pub mod PartReportLaws
+pub mod OnePartLaws
+pub mod AsReadLaws
+pub mod PartsLaws
+pub mod OneReportLaws
+pub mod JudgedLaws
+pub mod TogetherLaws

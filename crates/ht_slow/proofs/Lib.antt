@@ -1,0 +1,15 @@
+pub mod PlaceLaws
+pub mod DepthLaws
+pub mod FrameLaws
+pub mod RuleLaws
+pub mod Wired
+pub mod WiredLaws
+pub mod RunLaws
+pub mod OverLaws
+pub mod ListLaws
+pub mod DetectLaws
+pub mod CircuitLaws
+pub mod ClassLaws
+pub mod NameLaws
+pub mod NameListLaws
+pub mod SiteLaws

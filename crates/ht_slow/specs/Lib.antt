@@ -1,0 +1,5 @@
+pub mod Slow
+pub mod SlowDetection
+pub mod ExpandedLine
+pub mod LineNames
+pub mod Expanded

@@ -1,0 +1,2 @@
+pub mod DecideLaws
+pub mod JustifiedLaws

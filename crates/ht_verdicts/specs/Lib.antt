@@ -1,0 +1,3 @@
+pub mod Standing
+pub mod StandingOf
+pub mod Contents
