@@ -27,7 +27,7 @@ use Rattle.ht_uninit.specs.Records.{IsUninit, UninitHolds, UninitState}
 use Rattle.ht_uninit.specs.UninitTexts.{uninit_text, uninit_total}
 use Rattle.ht_asked.specs.Asked.{Asked}
 use Rattle.ht_asked.specs.Table.{Kind}
-use Rattle.ht_asked.specs.Table.{sim, gen, check, norm, demo, compact, diagnose, uninit, sync, respond, report, breed}
+use Rattle.ht_asked.specs.Table.{sim, gen, check, norm, demo, compact, diagnose, uninit, sync, respond, report, breed, causes}
 use Rattle.ht_words.specs.Jobs.{made_by}
 use Rattle.ht_app.specs.Changed.{output_name}
 use Rattle.ht_sync.specs.SyncSearches.{FindsWithin, IsSynchronized, SynchronizedHolds}
@@ -48,6 +48,9 @@ use Rattle.ht_faults.specs.Classes.{own_representatives}
 use Rattle.ht_bred.specs.Bred.{IsBred}
 use Rattle.ht_bred.specs.BredText.{bred_line}
 use Rattle.ht_bred.specs.declared.bred.Bred.{Bred}
+use Rattle.ht_causes.specs.declared.cause.Cause.{Cause}
+use Rattle.ht_causes.specs.Causes.{AreCauses}
+use Rattle.ht_causes.specs.CauseTexts.{causes_text, causes_total}
 use Rattle.ht_compact.specs.Compacts.{Compacts}
 use Rattle.ht_compact.specs.CompactionText.{compaction_line}
 use Rattle.ht_tern.specs.declared.tern.Tern.{Tern}
@@ -335,6 +338,19 @@ pub record IsBreeding (c : Netlist) (start : List Tern) (list : List (List Bool)
   pub is_bred : IsBred c representatives start list most bred
   pub texts : AreBredTexts representatives (length list) bred text total
 
+-- ---- `causes`
+
+-- The report says why these vectors don't detect the representative of each class, from the start, or where they do. The
+-- total line is its last.
+pub record IsCausesReport (c : Netlist) (start : List Tern) (list : List (List Bool))
+    (report total : List ℕ) : Type 0 where
+  pub representatives : List ℕ
+  pub found : List Cause
+  pub classes : AreClasses c representatives
+  pub exact : AreCauses c representatives start list found
+  pub report_is : report ≡ causes_text c representatives found
+  pub total_is : total ≡ with_lf (causes_total representatives found)
+
 -- ---- all commands
 
 -- What each command does to its outputs, once its inputs say the basis.
@@ -366,6 +382,9 @@ OutputOf report job basis acts = (basis.content.budget ≡ job.numbers.budget) �
     basis.representatives basis.content.budget basis.content.saids (body ++ total) total) acts)
 OutputOf breed job basis acts = MakesAt job Tests (λ out. WritesFile Tests out
     (IsBreeding basis.circuit basis.content.start basis.content.list job.numbers.bred) acts)
+OutputOf causes job basis acts = MakesAt job Report (λ out. WritesFile Report out
+    (λ body total. IsCausesReport basis.circuit basis.content.start basis.content.list
+    (body ++ total) total) acts)
 
 -- what the command of a job does
 abbrev pub MakesOutput : Asked → JobBasis → List Act → Type 0

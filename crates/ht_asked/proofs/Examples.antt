@@ -5,7 +5,7 @@ use Rattle.clap.specs.Walk.{Text}
 use Rattle.ht_asked.specs.Forms.{given, parts}
 use Rattle.ht_asked.specs.Asked.{Asked, InNames, Numbers, OutNames, makes_nothing, reads_nothing, unsaid}
 use Rattle.ht_asked.specs.Table.{Kind}
-use Rattle.ht_asked.specs.Table.{breed, check, compact, demo, diagnose, gen, report, respond, sync, uninit}
+use Rattle.ht_asked.specs.Table.{breed, causes, check, compact, demo, diagnose, gen, report, respond, sync, uninit}
 use Rattle.ht_asked.specs.Commands.{asked, budget_of, command_of}
 use Rattle.ht_asked.specs.ByClap.{app_with, given_by_clap}
 use Rattle.ht_asked.proofs.States.{AreReadable}
@@ -199,6 +199,17 @@ breeding : map asks (codes "breed n t o" ∷ codes "breed --vectors=0 n t o --se
     ∷ None ∷ None ∷ None ∷ []
 unfolding asked given parts
 breeding = refl
+
+abbrev explains : Option Text → Option Asked
+explains start = job_of causes (record (of_tests (codes "t")) { extra = start }) (to_report (codes "o")) unsaid
+
+-- `causes` has three names, and may have a start
+explained : map asks (codes "causes n t o" ∷ codes "causes --start s n t o" ∷ codes "causes n t"
+    ∷ codes "causes n t o --fault=1" ∷ [])
+    ≡ explains None ∷ explains (Some (codes "s"))
+    ∷ None ∷ None ∷ []
+unfolding asked given parts
+explained = refl
 
 -- `clap` reads the command's form as the plain reading does
 by_clap : (words : List Text) → AreReadable words

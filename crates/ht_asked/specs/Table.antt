@@ -81,6 +81,7 @@ pub data Kind : Type 0 where
   respond : Kind
   report : Kind
   breed : Kind
+  causes : Kind
 
 -- a command: its name in lower case, its positionals in their order, and its options; whether it says something on Out,
 -- whether it does so before the work, and whether it makes its files before the work
@@ -139,11 +140,12 @@ command_row report = row_with (codes "report")
 command_row breed = row_with (codes "breed")
     (of_netlist ∷ of_tests ∷ output (codes "out") out_port.Tests ∷ [])
     (number (codes "vectors") says_bred ∷ number (codes "seed") says_seed ∷ of_start ∷ [])
+command_row causes = row_with (codes "causes") (of_netlist ∷ of_tests ∷ of_out ∷ []) (of_start ∷ [])
 
 -- the commands, in the order of the usage line
 abbrev pub kinds : List Kind
 kinds = sim ∷ gen ∷ check ∷ norm ∷ demo ∷ compact ∷ diagnose ∷ uninit ∷ sync ∷ respond ∷ report
-    ∷ breed ∷ []
+    ∷ breed ∷ causes ∷ []
 
 -- the command may state a start
 abbrev pub takes_start : Kind → Bool

@@ -6,7 +6,7 @@ use Rattle.clap.specs.Walk.{Text}
 use Rattle.ht_asked.specs.Forms.{Part, given, given_by, fits_form, options_of, parts, positionals_of, text_of}
 use Rattle.ht_asked.specs.Asked.{Asked, InNames, Numbers, OutNames, makes_nothing, reads_nothing, unsaid}
 use Rattle.ht_asked.specs.Table.{Kind}
-use Rattle.ht_asked.specs.Table.{sim, gen, check, norm, demo, compact, diagnose, uninit, sync, respond, report, breed}
+use Rattle.ht_asked.specs.Table.{sim, gen, check, norm, demo, compact, diagnose, uninit, sync, respond, report, breed, causes}
 use Rattle.ht_asked.specs.Commands.{Command, asked, bred_of, budget_of, command_of, deep_of, demo_size, fault_of}
 use Rattle.ht_asked.specs.Table.{kinds}
 use Rattle.ht_asked.specs.Commands.{numbers_with, random_of, seed_of}
@@ -112,6 +112,7 @@ by_names report (n ∷ t ∷ p ∷ r ∷ []) v = by_budget
     (record makes_nothing { report = Some r }) (λ b. refl) (budget_of (v (codes "budget")))
 by_names breed (n ∷ t ∷ o ∷ []) v =
     by_breed n t o (v (codes "start")) (bred_of (v (codes "vectors"))) (seed_of (v (codes "seed")))
+by_names causes (n ∷ t ∷ o ∷ []) v = (job.Causes n t o (v (codes "start")), refl)
 by_names kind names v = tt
 
 by_parts : (kind : Kind) (ps : Option (List Part)) → AsksForJob

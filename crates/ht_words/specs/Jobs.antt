@@ -3,7 +3,7 @@ use Rattle.std.specs.Prelude.{◌≡◌, ◌∷◌, List, [], Option, Some, None
 use Rattle.clap.specs.Words.{Row, Text, first_of}
 use Rattle.ht_asked.specs.declared.limits.TheConstants.{DEFAULT_BRED, MAX_SEED, MAX_SIZE, MIN_SIZE}
 use Rattle.ht_asked.specs.Asked.{Asked, Numbers, OutNames, makes_nothing, reads_nothing, unsaid}
-use Rattle.ht_asked.specs.Table.{sim, gen, check, norm, demo, compact, diagnose, uninit, sync, respond, report, breed}
+use Rattle.ht_asked.specs.Table.{sim, gen, check, norm, demo, compact, diagnose, uninit, sync, respond, report, breed, causes}
 use Rattle.ht_asked.specs.ByClap.{all_of}
 use Rattle.ht_asked.specs.Commands.{budget_of, deep_of, numbers_with, random_of, seed_of}
 use Rattle.ht_asked.specs.Numbers.{number_in}
@@ -134,6 +134,12 @@ asked_by (job.Breed files options) = record {
   };
   makes = record makes_nothing { tests = Some files.out };
   numbers = record unsaid { bred = options.vectors; seed = options.seed };
+}
+asked_by (job.Causes netlist tests out start) = record {
+  command = causes;
+  reads = record reads_nothing { netlist = Some netlist; tests = Some tests; extra = start };
+  makes = record makes_nothing { report = Some out };
+  numbers = unsaid;
 }
 asked_by (job.Report files budget start) = record {
   command = report;

@@ -49,6 +49,7 @@ pub fn arguments_of(word: &str) -> Option<Arguments>
             &["budget", "start"],
         ),
         "breed" => (&["netlist", "tests", "out"], &["vectors", "seed", "start"]),
+        "causes" => (&["netlist", "tests", "out"], &["start"]),
         _ => return None,
     };
     Some(Arguments {
@@ -75,6 +76,7 @@ pub fn job(alloc: Global, word: &str, matches: &ArgMatches<'_>) -> Result<Job, W
         "respond" => respond_job(alloc, matches),
         "report" => report_job(alloc, matches),
         "breed" => breed_job(alloc, matches),
+        "causes" => causes_job(alloc, matches),
         _ => Err(WordsFault::Usage),
     }
 }
@@ -212,4 +214,13 @@ fn breed_job(alloc: Global, matches: &ArgMatches<'_>) -> Result<Job, WordsFault>
         out: value(alloc, matches, "out")?,
     };
     Ok(Job::Breed { files, options })
+}
+
+// The job of `causes`.
+fn causes_job(alloc: Global, matches: &ArgMatches<'_>) -> Result<Job, WordsFault>
+    ensures { IsAnswer (asked_in_rows (command_of kind.causes) (rows_of (found_of matches.now)))
+        result }
+{
+    let start = optional_value(alloc, matches, "start")?;
+    with_values!(alloc, matches => Causes { netlist, tests, out; start })
 }

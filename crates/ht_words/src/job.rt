@@ -179,6 +179,17 @@ pub enum Job {
         /// The start to read, if one is stated.
         start: Option<FileName>,
     },
+    /// Says why the tests don't detect each fault of the netlist.
+    Causes {
+        /// The netlist to read.
+        netlist: FileName,
+        /// The tests to read.
+        tests: FileName,
+        /// The report to write.
+        out: FileName,
+        /// The start to read, if one is stated.
+        start: Option<FileName>,
+    },
 }
 
 /// Why words are no job.

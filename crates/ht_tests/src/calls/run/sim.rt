@@ -1,4 +1,4 @@
-//! `sim`: reports, the lines of tests, and starts.
+//! `sim`: reports, the lines of tests, and starts; and the report of `causes`.
 
 pub const ROWS: &str = "~# The report of s27 under the vector 1100, which shows two faults.
 ~run sim n t r
@@ -248,4 +248,24 @@ X\r
 0
 ~with s 7 tests: line 1
 1
+~# `causes` says of each class where the tests detect it, or why they don't
+~run causes n t r
+~given n < SHIFT_REGISTER
+~with t 7 tests: line 2
+1
+2
+~none r
+~with t 0 total 6 detected 3 possible 0 stored 2 stopped 0 unexcited 1 unknown 0
+1
+0
+0
+~left r
+circuit inputs 1 outputs 1 flip-flops 2 gates 0 faults 6 classes 6
+1 a s-a-0 detected 3 r
+2 a s-a-1 stored 2 q
+3 q s-a-0 detected 3 r
+4 q s-a-1 stored 3 r
+5 r s-a-0 detected 3 r
+6 r s-a-1 unexcited
+total 6 detected 3 possible 0 stored 2 stopped 0 unexcited 1 unknown 0
 ";
