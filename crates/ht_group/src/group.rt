@@ -10,7 +10,7 @@ ghost use Rattle.ht_group.specs.Differences.{with_differences};
 ghost use Rattle.ht_group.specs.GroupView.{AreInLanes, AreLatches, HasSite, faulty_next, faulty_output, good_next, good_output, max_machines, max_words, words_for};
 ghost use Rattle.ht_group.specs.MachineWords.{AreFirstChanged, HasWordRoom, IsBare, IsRestored};
 ghost use Rattle.ht_group.specs.declared.machines.Machines.{Machines};
-ghost use Rattle.ht_group.specs.GoodFrames.{HasFrameRoom};
+ghost use Rattle.ht_group.specs.GoodFrames.{AreFrameValues, HasFrameRoom};
 ghost use Rattle.ht_group.specs.NetValues.{IsNetAt, faulty_value, good_value};
 
 use crate::diffs::Diffs;
@@ -152,6 +152,28 @@ impl<'c> Group<'c> {
     {
         let circuit = self.frame.circuit;
         self.frame.good.start(circuit, vector, latches);
+        begin_words(circuit, &mut self.words);
+        self.count = 0;
+        self.frame.pending.clear();
+        self.settled = true;
+    }
+
+    /// The same where the values of all nets in that frame are known, by the number of the net: no gate is evaluated.
+    pub fn start_at(&mut self, vector: &[bool], latches: &[Tern], values: &[Tern])
+        requires width { length vector.now ≡ self.old.circuit.inputs }
+        requires each { length latches.now ≡ length self.old.circuit.dffs }
+        requires values { AreFrameValues self.old.circuit (terns_of vector.now) latches.now
+            values.now }
+        ensures { self.new ≡ record {
+          circuit = self.old.circuit;
+          vector = terns_of vector.now;
+          latches = latches.now;
+          machines = [];
+          settled = true;
+        } }
+    {
+        let circuit = self.frame.circuit;
+        self.frame.good.start_at(circuit, vector, latches, values);
         begin_words(circuit, &mut self.words);
         self.count = 0;
         self.frame.pending.clear();
@@ -304,6 +326,18 @@ impl<'c> Group<'c> {
     {
         let net = self.output_net(o);
         self.word(w, net).opposite(self.good_value(net))
+    }
+
+    /// What each machine of a word shows at an output; a lane without a machine has what the good one shows.
+    pub fn shown(&self, w: u32, o: u32) -> Word
+        requires settled { self.now.settled ≡ true }
+        requires word { w < words_for (length self.now.machines) }
+        requires output { o < length self.now.circuit.outputs }
+        ensures { AreInLanes self.now w (lane result) (λ m. faulty_output self.now m o)
+            (good_output self.now o) }
+    {
+        let net = self.output_net(o);
+        self.word(w, net)
     }
 
     /// The latch of each machine of a word after the frame; a lane without a machine has the good one.

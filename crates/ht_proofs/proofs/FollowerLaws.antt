@@ -57,7 +57,8 @@ first_with firsts Unk Zero i f h = inr h
 first_with firsts Unk One i f h = inr h
 first_with firsts Unk Unk i f h = let e : f ≡ i = cc in inl (refl, e)
 
-first_cases : (table : List Firsts) (x : ℕ) (v : Tern) (i y : ℕ) (w : Tern) (f : ℕ) → x < length table
+-- the first at a net with a value once another is noted: that one, or the first before
+pub first_cases : (table : List Firsts) (x : ℕ) (v : Tern) (i y : ℕ) (w : Tern) (f : ℕ) → x < length table
     → first_at (first_noted table x v i) y w ≡ Some f
     → ((y ≡ x) × (w ≡ v) × (f ≡ i)) ⊎ (first_at table y w ≡ Some f)
 first_cases table x v i y w f inside at = elim (cases_eq y x) [
@@ -74,7 +75,8 @@ first_cases table x v i y w f inside at = elim (cases_eq y x) [
       (sym (get_or-set_other table x y (with_first (get_or table x no_firsts) v i) no_firsts other)) ∙ at)
 ]
 
-none_yet : (v : Tern) → first_in no_firsts v ≡ None
+-- none has arrived where no fault has
+pub none_yet : (v : Tern) → first_in no_firsts v ≡ None
 none_yet Zero = refl
 none_yet One = refl
 none_yet Unk = refl

@@ -31,8 +31,8 @@ pub struct Firsts {
 }
 
 impl Firsts {
-    // No fault has arrived.
-    fn none() -> Firsts
+    /// No fault has arrived.
+    pub fn none() -> Firsts
         ensures { result ≡ no_firsts }
     {
         Firsts {
@@ -42,8 +42,8 @@ impl Firsts {
         }
     }
 
-    // The first that arrived with a value.
-    fn at(&self, value: Tern) -> Option<usize>
+    /// The first that arrived with a value.
+    pub fn at(&self, value: Tern) -> Option<usize>
         ensures { result ≡ first_in self.now value }
     {
         match value {
@@ -53,8 +53,8 @@ impl Firsts {
         }
     }
 
-    // The same once a fault is the first that arrived with a value.
-    fn with(self, value: Tern, fault: usize) -> Firsts
+    /// The same once a fault is the first that arrived with a value.
+    pub fn with(self, value: Tern, fault: usize) -> Firsts
         ensures { result ≡ with_first self value fault }
     {
         let fault = Some(fault);
