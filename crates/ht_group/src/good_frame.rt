@@ -78,6 +78,7 @@ impl GoodFrame {
         join(vector, latches, &mut self.sources);
         self.run(circuit);
     }
+
     /// The same where the values of all nets in that frame are known, by the number of the net: no gate is evaluated.
     pub fn start_at(
         &mut self,
