@@ -1,6 +1,8 @@
 //! The solver of one frame, before anything is forbidden in it.
 ghost use Rattle.ht_solver.specs.Efforts.{IsNoMore};
 
+use crate::cube::Cube;
+use crate::frame::excluding;
 use crate::problem::{Problem, Source};
 use crate::question::{add_literal, ask};
 use ht_solver::{Effort, Literal, Solver, Value};
@@ -11,6 +13,8 @@ use std::alloc::{AllocError, Global};
 #[derive(Drop)]
 pub struct Base {
     pub solver: Solver,
+    /// It has so many clauses at most, what it learnt left aside: the price of a copy goes by them.
+    pub clauses: usize,
     /// True only where some output differs; none where the solver has too many variables.
     pub differs: Option<Literal>,
     /// By difference of the problem: true only where it shows.
@@ -47,6 +51,16 @@ fn add_source(solver: &mut Solver, literal: Literal, source: Source) -> Result<(
     Ok(())
 }
 
+// A clause for each of both sources of a difference, and one that some difference shows, come to those of a frame.
+fn most_clauses(problem: &Problem) -> usize {
+    let sources = problem.differences.len().saturating_mul(2);
+    problem
+        .clauses
+        .len()
+        .saturating_add(sources)
+        .saturating_add(1)
+}
+
 impl Base {
     /// The base of a problem.
     ///
@@ -58,6 +72,7 @@ impl Base {
         add_clauses(&mut solver, &problem.clauses)?;
         let mut base = Base {
             solver,
+            clauses: most_clauses(problem),
             differs: None,
             shown: Vec::new(alloc),
         };
@@ -82,6 +97,17 @@ impl Base {
             self.shown.push(shown)?;
         }
         self.solver.add_support(&some)?;
+        Ok(())
+    }
+
+    /// Forbids a cube, in each copy too.
+    ///
+    /// # Errors
+    /// Out of memory.
+    pub fn forbid(&mut self, alloc: Global, cube: &Cube) -> Result<(), AllocError> {
+        let clause = excluding(alloc, cube, None)?;
+        self.solver.add_clause(&clause)?;
+        self.clauses = self.clauses.saturating_add(1);
         Ok(())
     }
 

@@ -16,6 +16,7 @@
 //! | `problem`, `supports`, `cube` | what is searched; which clauses support a variable; cubes of rails |
 //! | `question`, `base` | questions to a solver and what they cost; the solver of one frame |
 //! | `frame`, `search` | a frame with its cubes; the frames of a search |
+//! | `room` | how many variables all frames may have |
 //! | `predecessor`, `reach` | the walk back from a solution; whether a frame leads to a cube |
 //! | `obligations`, `block` | what is still to be blocked; blocking, with smaller cubes, as far up as they hold |
 //! | `candidates` | cubes of earlier faults: what stands of them |
@@ -33,6 +34,7 @@ mod problem;
 mod question;
 mod reach;
 mod reachability;
+mod room;
 mod search;
 mod supports;
 

@@ -1,9 +1,12 @@
 //! Questions to a solver, and what they cost.
-ghost use Rattle.std.specs.Prelude.{◌≡◌, ◌≤◌, ◌+◌, ◌-◌, OnOk};
+ghost use Rattle.std.specs.Prelude.{◌≡◌, ◌≤◌, ◌+◌, ◌-◌, ◌/◌, OnOk};
 ghost use Rattle.ht_solver.specs.Efforts.{IsNoMore};
 
 use ht_solver::{Answer, Effort, Literal, Solver};
 use std::alloc::AllocError;
+
+// A solver with so many clauses is copied at the price of one propagation.
+const CLAUSES_A_PROPAGATION: usize = 4;
 
 /// Adds the positive literals of variables.
 ///
@@ -54,6 +57,17 @@ pub fn charge(left: &mut Effort)
     ensures propagations { left.new.propagations ≡ left.old.propagations - 1 }
 {
     left.propagations = left.propagations.saturating_sub(1);
+}
+
+/// Takes from what is left the price of a copy of a solver with so many clauses: a quarter of a propagation a clause.
+pub fn charge_copy(clauses: usize, left: &mut Effort)
+    ensures conflicts { left.new.conflicts ≡ left.old.conflicts }
+    ensures propagations { left.new.propagations
+        ≡ left.old.propagations - clauses / CLAUSES_A_PROPAGATION }
+    ensures less { IsNoMore left.new left.old }
+{
+    let price = clauses / CLAUSES_A_PROPAGATION;
+    left.propagations = left.propagations.saturating_sub(price as u64);
 }
 
 /// Asks a solver under assumptions, for as many conflicts at most, within what is left, and takes from it what the solver

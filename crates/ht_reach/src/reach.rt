@@ -19,7 +19,7 @@ pub enum Reach {
     From(Predecessor),
     /// Nothing in the frame leads to this part of it, which the start hasn't.
     Never(Cube),
-    /// The budget is spent.
+    /// The budget is spent, or the frames have no room for a variable.
     GivenUp,
 }
 
@@ -162,6 +162,9 @@ impl Search<'_> {
             return Ok(Reach::Never(part));
         }
         let excluded = if excludes && frame > 0 {
+            if !self.held.add(1) {
+                return Ok(Reach::GivenUp);
+            }
             self.exclude(frame, cube)?
         } else {
             None

@@ -5,9 +5,8 @@ ghost use Rattle.ht_solver.specs.Efforts.{IsNoMore};
 use crate::block::Blocked;
 use crate::candidates::Candidates;
 use crate::cube::Cube;
-use crate::frame::excluding;
 use crate::problem::Problem;
-use crate::question::is_spent;
+use crate::question::{charge_copy, is_spent};
 use crate::reach::Reach;
 use crate::search::Search;
 use ht_solver::{Answer, Effort};
@@ -44,6 +43,13 @@ impl Search<'_> {
         let Some(differs) = self.base.differs else {
             return Ok(None);
         };
+        if pool.is_empty() {
+            return Ok(None);
+        }
+        charge_copy(self.base.clauses, &mut self.left);
+        if is_spent(self.left) {
+            return Ok(None);
+        }
         let mut candidates = Candidates::new(self.alloc, &self.base, self.problem, pool)?;
         if candidates.is_empty() || !candidates.settle(self.problem, &mut self.left)? {
             return Ok(None);
@@ -61,8 +67,7 @@ impl Search<'_> {
         ensures { self.new.left ≡ self.old.left }
     {
         for cube in &cubes {
-            let clause = excluding(self.alloc, cube, None)?;
-            self.base.solver.add_clause(&clause)?;
+            self.base.forbid(self.alloc, cube)?;
         }
         self.known = cubes;
         Ok(())
@@ -173,14 +178,18 @@ impl Search<'_> {
         if let Some(cubes) = self.try_pool(pool)? {
             return Ok(Reached::Refuted(cubes));
         }
-        self.add_start()?;
+        if !self.add_start()? {
+            return Ok(Reached::GivenUp);
+        }
         for _ in 0..MAX_SEARCH_FRAMES {
             match self.block_all()? {
                 Blocked::GivenUp => return Ok(Reached::GivenUp),
                 Blocked::Detected(vectors) => return Ok(Reached::Detected(vectors)),
                 Blocked::Done => {}
             }
-            self.add_frame()?;
+            if !self.add_frame()? {
+                return Ok(Reached::GivenUp);
+            }
             if let Some(reached) = self.push_all()? {
                 return Ok(reached);
             }
@@ -191,7 +200,8 @@ impl Search<'_> {
 
 /// Looks for vectors that lead from the start to a difference, or for cubes that exclude every difference, by property
 /// directed reachability. Cubes of a pool, which earlier faults of the circuit needed, are tried first. It spends no more
-/// than what is left, and takes what it spends from it; a question counts one propagation at least.
+/// than what is left, and takes what it spends from it; a question counts one propagation at least, and a clause that is
+/// copied for a frame a quarter of one. It gives up before its frames have more than 2^21 variables.
 ///
 /// # Errors
 /// Out of memory; what is left is then unchanged.

@@ -7,7 +7,8 @@ use crate::cube::Cube;
 use crate::frame::Frame;
 use crate::predecessor::{Predecessor, Walk};
 use crate::problem::Problem;
-use crate::question::ask;
+use crate::question::{ask, charge_copy, is_spent};
+use crate::room::FrameVariables;
 use ht_solver::{Answer, Effort, Literal, Solver};
 use std::alloc::{AllocError, Global};
 
@@ -18,6 +19,8 @@ pub struct Search<'a> {
     pub problem: &'a Problem,
     pub base: Base,
     pub frames: Vec<Frame>,
+    /// What all frames have of variables.
+    pub held: FrameVariables,
     /// Cubes of earlier faults that no vector ever leads to: they are forbidden in every frame.
     pub known: Vec<Cube>,
     pub walk: Walk,
@@ -46,6 +49,7 @@ impl<'a> Search<'a> {
             problem,
             base,
             frames: Vec::new(alloc),
+            held: FrameVariables::new(),
             known: Vec::new(alloc),
             walk: Walk::new(alloc, problem)?,
             marks: vec![in alloc; false; problem.costs.len()]?,
@@ -53,29 +57,37 @@ impl<'a> Search<'a> {
         })
     }
 
-    /// Adds a frame after the last.
+    /// Adds a frame after the last, at the price of a copy of the base. False where nothing is left then, or the frames
+    /// would have too many variables.
     ///
     /// # Errors
     /// Out of memory.
-    pub fn add_frame(&mut self) -> Result<(), AllocError>
-        ensures { self.new.left ≡ self.old.left }
+    pub fn add_frame(&mut self) -> Result<bool, AllocError>
+        ensures { IsNoMore self.new.left self.old.left }
     {
+        charge_copy(self.base.clauses, &mut self.left);
+        if is_spent(self.left) || !self.held.add(self.base.solver.variables()) {
+            return Ok(false);
+        }
         let frame = Frame::new(self.alloc, &self.base.solver)?;
         self.frames.push(frame)?;
-        Ok(())
+        Ok(true)
     }
 
-    /// Adds frame 0: a rail that no latch has at the start is false there.
+    /// Adds frame 0: a rail that no latch has at the start is false there. False as for any other frame.
     ///
     /// # Errors
     /// Out of memory.
-    pub fn add_start(&mut self) -> Result<(), AllocError>
-        ensures { self.new.left ≡ self.old.left }
+    pub fn add_start(&mut self) -> Result<bool, AllocError>
+        ensures { IsNoMore self.new.left self.old.left }
     {
-        let mut frame = Frame::new(self.alloc, &self.base.solver)?;
-        forbid_rest(self.problem, &mut frame.solver)?;
-        self.frames.push(frame)?;
-        Ok(())
+        if !self.add_frame()? {
+            return Ok(false);
+        }
+        if let Some(frame) = self.frames.get_mut(0) {
+            forbid_rest(self.problem, &mut frame.solver)?;
+        }
+        Ok(true)
     }
 
     /// The last frame.
