@@ -7,7 +7,7 @@ gen NETLIST TESTS REPORT PROOFS [--budget N] [--random N] [--seed S] [--start FI
 check NETLIST TESTS REPORT PROOFS [--start FILE], norm NETLIST OUT, demo SIZE SEED, \
 compact NETLIST TESTS OUT, diagnose NETLIST TESTS RESPONSES OUT, \
 uninit NETLIST OUT [--budget N], sync NETLIST TESTS OUT [--budget N], \
-respond NETLIST TESTS OUT [--fault N] [--start FILE], \
+respond NETLIST TESTS OUT [--fault N] [--start FILE] [--lines], \
 report NETLIST TESTS PROOFS REPORT [--budget N] [--start FILE], \
 breed NETLIST TESTS OUT [--vectors N] [--seed S] [--start FILE]
 """
@@ -29,15 +29,19 @@ def is_option(word):
     return word.startswith("-") and word != "-"
 
 
-def asked(words, count=4, options=OPTIONS, more=("start",)):
-    """The names, the numbers of the options and the words of more options, or None, that the words after a command ask for;
-    None where they have no form."""
+def asked(words, count=4, options=OPTIONS, more=("start",), flags=()):
+    """The names, the numbers of the options, the words of more options, or None, and whether each flag is given, that the words
+    after a command ask for; None where they have no form."""
     names, given, left = [], {}, list(words)
     while left:
         word = left.pop(0)
         option, equals, value = word[2:].partition("=")
         if word == "--":
             names, left = names + left, []
+        elif word.startswith("--") and option in flags:
+            if option in given or equals:
+                return None
+            given[option] = True
         elif word.startswith("--") and option in (*options, *more):
             if option in given or not (equals or left) or not equals and is_option(left[0]):
                 return None
@@ -49,7 +53,8 @@ def asked(words, count=4, options=OPTIONS, more=("start",)):
             names.append(word)
     if len(names) != count or None in given.values():
         return None
-    return names, [given.get(option, numbers[0]) for option, numbers in options.items()], *map(given.get, more)
+    numbers = [given.get(option, numbers[0]) for option, numbers in options.items()]
+    return names, numbers, *map(given.get, more), *(flag in given for flag in flags)
 
 
 # ---- comparing

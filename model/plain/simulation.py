@@ -46,6 +46,16 @@ def outputs_of(circuit, vectors, site=None, stuck=None, start=None):
     return shown
 
 
+def traces_of(circuit, vectors, site=None, stuck=None, start=None):
+    """What each net has at each vector, in the order of their stems in the list of faults; the rest is as of outputs_of."""
+    state, shown = start or [X] * len(circuit.flip_flops), []
+    for vector in vectors:
+        values = values_of(circuit, vector, state, site, stuck)
+        _, state = frame_of(circuit, vector, state, site, stuck)
+        shown.append([values[net] for net in circuit.nets()])
+    return shown
+
+
 def first_opposite(circuit, ours, theirs):
     """The first vector, from 1, and there the first output at which two machines show opposite definite values."""
     for number, rows in enumerate(zip(ours, theirs), 1):

@@ -12,7 +12,7 @@ class Applied(NamedTuple):
 
     circuit: check_proofs.Circuit
     tests: list  # texts of 0 and 1, one character for each input
-    responses: list  # texts of 0, 1 and X, one character for each output
+    responses: list  # texts of 0, 1 and X, one character for each output, or for each net
 
     @property
     def inputs(self):
@@ -21,6 +21,10 @@ class Applied(NamedTuple):
     @property
     def outputs(self):
         return [self.circuit.names[net].decode() for net in self.circuit.outputs]
+
+    @property
+    def nets(self):
+        return [name.decode() for name in self.circuit.names]
 
 
 def rows_of(text, width, characters, kind):
@@ -32,8 +36,9 @@ def rows_of(text, width, characters, kind):
     return [line.decode() for line in lines]
 
 
-def read_applied(netlist, tests, responses):
-    """What the three files say, by their names; ends the program where one can't be read or is refused."""
+def read_applied(netlist, tests, responses, lines=False):
+    """What the three files say, by their names, where a response has a character for each output, or, with lines, for each net;
+    ends the program where one can't be read or is refused."""
     try:
         netlist, tests, responses = (pathlib.Path(name).read_bytes() for name in (netlist, tests, responses))
         circuit = check_proofs.read_netlist(netlist)
@@ -42,7 +47,7 @@ def read_applied(netlist, tests, responses):
     except check_proofs.Refused as refused:
         sys.exit(f"netlist: {refused.args[0].decode(errors='replace')}")
     vectors = rows_of(tests, circuit.inputs, b"01", "tests")
-    rows = rows_of(responses, len(circuit.outputs), b"01X", "responses")
+    rows = rows_of(responses, len(circuit.names if lines else circuit.outputs), b"01X", "responses")
     if len(rows) != len(vectors):
         sys.exit(f"responses: line {min(len(rows), len(vectors)) + 1}")
     return Applied(circuit, vectors, rows)

@@ -24,13 +24,13 @@ machine_listed c (Some number) fault machine = machine.0
 -- an output is made only where the circuit has it
 made_listed : (j : Job) (basis : JobBasis) (acts : List Act) → MakesOutput (asked_by j) basis acts
     → HasFault (asked_by j) basis.circuit
-made_listed (job_of.Respond netlist tests out number start) basis acts (name, named, made) =
+made_listed (job_of.Respond netlist tests out number start lines) basis acts (name, named, made) =
     machine_listed basis.circuit number made.fault made.machine
 made_listed j basis acts made = tt
 
 begun_listed : (j : Job) (basis : JobBasis) (acts : List Act) → BeginsOutput (asked_by j) basis acts
     → HasFault (asked_by j) basis.circuit
-begun_listed (job_of.Respond netlist tests out number start) basis acts begun = absurd begun
+begun_listed (job_of.Respond netlist tests out number start lines) basis acts begun = absurd begun
 begun_listed j basis acts begun = tt
 
 -- if the fault that a job names isn't the circuit's, no output is made

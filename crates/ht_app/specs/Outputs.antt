@@ -57,7 +57,7 @@ use Rattle.ht_tern.specs.declared.tern.Tern.{Tern}
 use Rattle.ht_dictionary.specs.Diagnoses.{Diagnoses}
 use Rattle.ht_dictionary.specs.DiagnosisTexts.{diagnosis_text, diagnosis_total}
 use Rattle.ht_dictionary.specs.DiagnosisView.{DiagnosisView}
-use Rattle.ht_dictionary.specs.Responses.{IsResponses}
+use Rattle.ht_dictionary.specs.Responses.{IsLineResponses, IsResponses}
 
 -- ---- one file, and its total line on Out
 
@@ -307,15 +307,21 @@ IsMachineOf c (Some number) fault = IsListed c (Some number)
 abbrev pub response_acts : List ℕ → List ℕ → List ℕ → List ℕ → List Act
 response_acts out body said last = make Report out ∷ report_acts body said last
 
--- The file has exactly what that machine shows over the vectors, from the start.
-pub record WritesResponses (out : List ℕ) (c : net.Netlist) (number : Option ℕ) (start : List Tern)
-    (list : List (List Bool)) (acts : List Act) : Type 0 where
+-- the texts have what a machine shows over the vectors, from the start: the value of each net, or that of each output
+abbrev pub AreTextsOf : Bool → net.Netlist → Option Fault → List Tern → List (List Bool)
+    → List ℕ → List ℕ → List ℕ → Type 0
+AreTextsOf true = IsLineResponses
+AreTextsOf false = IsResponses
+
+-- The file has exactly what that machine shows over the vectors, from the start, at each net or at each output.
+pub record WritesResponses (out : List ℕ) (c : net.Netlist) (number : Option ℕ) (lines : Bool)
+    (start : List Tern) (list : List (List Bool)) (acts : List Act) : Type 0 where
   pub fault : Option Fault
   pub body : List ℕ
   pub said : List ℕ
   pub last : List ℕ
   pub machine : IsMachineOf c number fault
-  pub so : IsResponses c fault start list body last said
+  pub so : AreTextsOf lines c fault start list body last said
   pub acts_are : acts ≡ response_acts out body said last
 
 -- ---- `breed`
@@ -375,7 +381,8 @@ OutputOf uninit job basis acts = MakesAt job Report (λ out. WritesFile Report o
 OutputOf sync job basis acts = MakesAt job Tests (λ tests.
     MakesAt job Report (λ out. WritesSync tests out basis.circuit job.numbers.budget acts))
 OutputOf respond job basis acts = MakesAt job Report (λ out.
-    WritesResponses out basis.circuit job.numbers.fault basis.content.start basis.content.list acts)
+    WritesResponses out basis.circuit job.numbers.fault job.numbers.lines basis.content.start
+    basis.content.list acts)
 OutputOf report job basis acts = (basis.content.budget ≡ job.numbers.budget) × AreTrue basis
     × MakesAt job Report
     (λ out. WritesFile Report out (λ body total. IsReportOfVerdicts basis.circuit

@@ -7,14 +7,16 @@ use Rattle.std.proofs.lemmas.Slice.Eq.{bytes_eq-Decides}
 use Rattle.std.proofs.Math.Bool.{and-false}
 use Rattle.std.proofs.lemmas.Bool.Decides.{Decides-eqb}
 use Rattle.std.proofs.lemmas.Option.{slice_get_within}
+use Rattle.std.proofs.lemmas.List.Folds.{list_any-append}
 use Rattle.clap.specs.Lexer.{usize_max}
-use Rattle.clap.specs.Walk.{Rule, Text, arg_by_short, has_long, has_short}
-use Rattle.ht_asked.specs.Forms.{Form}
+use Rattle.clap.specs.Walk.{Rule, Text, arg_by_id, arg_by_index, arg_by_long, arg_by_short, has_long, has_short}
+use Rattle.ht_asked.specs.Forms.{Form, all_differ, is_among, named}
 use Rattle.ht_asked.proofs.Uses.{arguments, place_in}
-use Rattle.ht_asked.proofs.NameLaws.{same_name}
+use Rattle.ht_asked.proofs.NameLaws.{apart, found, later_differ, same_name}
 use Rattle.ht_asked.proofs.Looks.{true_is_false}
-use Rattle.ht_asked.proofs.Rows.{Param, word}
-use Rattle.ht_asked.proofs.States.{Finds, IsModel}
+use Rattle.ht_asked.proofs.Positional.{or_false}
+use Rattle.ht_asked.proofs.Rows.{Param, toggle, word}
+use Rattle.ht_asked.proofs.States.{Finds, FindsLong, IsKnown, IsModel, no_long, an_option, a_flag}
 use Rattle.ht_asked.proofs.BuiltLaws.{need, choice, needs_from, params_of, rules_of}
 
 -- ---- where the arguments are found
@@ -52,24 +54,55 @@ known_in test (p ∷ ps) a is = go (bytes_eq p.id a.id) refl (test p) refl (know
         let rest = later (sym (ap (λ b. cond b (Some p) (find test ps)) f) ∙ is) in
         (rest.0, ap (λ b. cond b (Some p) (find (λ q. bytes_eq q.id a.id) ps)) e ∙ rest.1, rest.2)
 
-finds : (test : Rule → Bool) (ps : List Param) (id : Option Text)
-    → option_map (λ (p : Param). p.id) (find (λ p. test (word p)) ps) ≡ id
-    → Finds (map word ps) (find test (map word ps)) id
-finds test ps id is = go (find (λ p. test (word p)) ps) refl
+-- what is found among the first is found among all
+found_first : (test : Rule → Bool) (xs ys : List Rule) (r : Rule) → find test xs ≡ Some r
+    → find test (xs ++ ys) ≡ Some r
+found_first test [] ys r is = cc
+found_first test (x ∷ xs) ys r is = go (test x) is (found_first test xs ys r)
   where
-    go : (o : Option Param) → find (λ p. test (word p)) ps ≡ o → Finds (map word ps) (find test (map word ps)) id
-    go None e = inl (
-      found_word test ps ∙ ap (option_map word) e,
-      sym is ∙ ap (option_map (λ (p : Param). p.id)) e,
-    )
-    go (Some a) e =
-        let known = known_in (λ p. test (word p)) ps a e in
-        inr (
-          a,
-          found_word test ps ∙ ap (option_map word) e,
-          sym is ∙ ap (option_map (λ (p : Param). p.id)) e,
-          (known.0, found_word (λ r. bytes_eq r.id a.id) ps ∙ ap (option_map word) known.1, known.2),
-        )
+    go : (b : Bool) → cond b (Some x) (find test xs) ≡ Some r → (find test xs ≡ Some r → find test (xs ++ ys) ≡ Some r)
+        → cond b (Some x) (find test (xs ++ ys)) ≡ Some r
+    go true e later = e
+    go false e later = later e
+
+-- where none is found among the first, the others tell
+found_later : (test : Rule → Bool) (xs ys : List Rule) → find test xs ≡ None → find test (xs ++ ys) ≡ find test ys
+found_later test [] ys none = refl
+found_later test (x ∷ xs) ys none = go (test x) none (found_later test xs ys)
+  where
+    go : (b : Bool) → cond b (Some x) (find test xs) ≡ None
+        → (find test xs ≡ None → find test (xs ++ ys) ≡ find test ys)
+        → cond b (Some x) (find test (xs ++ ys)) ≡ find test ys
+    go true e later = cc
+    go false e later = later e
+
+-- an argument that is found by a test, before other rules
+module _ (test : Rule → Bool) (ps : List Param) (others : List Rule) where
+  abbrev all : List Rule
+  all = map word ps ++ others
+
+  found_param : (a : Param) → find (λ p. test (word p)) ps ≡ Some a → find test all ≡ Some (word a)
+  found_param a e = found_first test (map word ps) others (word a) (found_word test ps ∙ ap (option_map word) e)
+
+  found_other : find (λ p. test (word p)) ps ≡ None → find test all ≡ find test others
+  found_other e = found_later test (map word ps) others (found_word test ps ∙ ap (option_map word) e)
+
+  is_known : (a : Param) → find (λ p. test (word p)) ps ≡ Some a → IsKnown all a.id
+  is_known a e =
+      let known = known_in (λ p. test (word p)) ps a e in (
+        known.0,
+        found_first (λ r. bytes_eq r.id a.id) (map word ps) others (word known.0)
+            (found_word (λ r. bytes_eq r.id a.id) ps ∙ ap (option_map word) known.1),
+        known.2,
+      )
+
+  finds : (id : Option Text) → find test others ≡ None
+      → option_map (λ (p : Param). p.id) (find (λ p. test (word p)) ps) ≡ id → Finds all (find test all) id
+  finds id none is = go (find (λ p. test (word p)) ps) refl
+    where
+      go : (o : Option Param) → find (λ p. test (word p)) ps ≡ o → Finds all (find test all) id
+      go None e = inl (found_other e ∙ none, sym is ∙ ap (option_map (λ (p : Param). p.id)) e)
+      go (Some a) e = inr (a, found_param a e, sym is ∙ ap (option_map (λ (p : Param). p.id)) e, is_known a e)
 
 abbrev at_index : ℕ → Param → Bool
 at_index k p = option_map_or (λ j. j == k) p.index false
@@ -134,16 +167,92 @@ no_short y (p ∷ ps) = ap
     (λ b. cond b (Some (word p)) (find (λ a. not (is_some a.index) && has_short a y) (map word ps)))
     (and-false (not (is_some p.index))) ∙ no_short y ps
 
--- the rules of a form whose positionals can be numbered have these by index, options by name, and no short names
+-- ---- flags
+
+no_flag_at : (k : ℕ) (fs : List Text) → arg_by_index (map toggle fs) k ≡ None
+no_flag_at k [] = refl
+no_flag_at k (f ∷ fs) = no_flag_at k fs
+
+no_short_flag : (y : ℕ) (fs : List Text) → arg_by_short (map toggle fs) y ≡ None
+no_short_flag y [] = refl
+no_short_flag y (f ∷ fs) = no_short_flag y fs
+
+long_flag : (n : Text) (fs : List Text) → arg_by_long (map toggle fs) n ≡ cond (is_among n fs) (Some (toggle n)) None
+long_flag n [] = refl
+long_flag n (f ∷ fs) = go (bytes_eq f n) refl (long_flag n fs)
+  where
+    go : (b : Bool) → bytes_eq f n ≡ b
+        → arg_by_long (map toggle fs) n ≡ cond (is_among n fs) (Some (toggle n)) None
+        → cond (b || false) (Some (toggle f)) (arg_by_long (map toggle fs) n)
+        ≡ cond (b || is_among n fs) (Some (toggle n)) None
+    go true e later = ap (λ m. Some (toggle m)) ((bytes_eq-Decides f n).0 e)
+    go false e later = later
+
+module _ (form : Form) (differ : all_differ (form.positionals ++ named form) ≡ true) (n : Text) where
+  abbrev flags : List Rule
+  flags = map toggle form.flags
+
+  abbrev is_long : Rule → Bool
+  is_long a = not (is_some a.index) && has_long a n
+
+  named_is : find (λ m. bytes_eq m n) (named form)
+      ≡ cond (is_among n form.options || is_among n form.flags) (Some n) None
+  named_is = found n (named form)
+      ∙ ap (λ b. cond b (Some n) None) (list_any-append (λ o. bytes_eq o n) form.options form.flags)
+
+  option_is : id_of_long n (params_of form) ≡ cond (is_among n form.options) (Some n) None
+  option_is = long_place n 1 form.positionals form.options ∙ found n form.options
+
+  none_found : (o : Option Param) → find (λ p. is_long (word p)) (params_of form) ≡ o
+      → is_among n form.options ≡ false → find (λ p. is_long (word p)) (params_of form) ≡ None
+  none_found None e other = e
+  none_found (Some a) e other =
+      let bad : Some a.id ≡ None = sym (ap (option_map (λ (p : Param). p.id)) e) ∙ option_is
+      ∙ ap (λ b. cond b (Some n) None) other in cc
+
+  abbrev LongIs : Type 0
+  LongIs = FindsLong (rules_of form) (arg_by_long (rules_of form) n) (find (λ m. bytes_eq m n) (named form))
+      (is_among n form.flags)
+
+  of_flag : is_among n form.flags ≡ true → LongIs
+  of_flag e =
+      let other = apart form.options form.flags n (later_differ form.positionals (named form) differ) e in
+      let none = none_found (find (λ p. is_long (word p)) (params_of form)) refl other in
+      a_flag n
+      (found_other is_long (params_of form) flags none ∙ long_flag n form.flags
+      ∙ ap (λ b. cond b (Some (toggle n)) None) e)
+      (named_is ∙ (λ i. cond (other i || e i) (Some n) None)) e
+
+  of_option : is_among n form.flags ≡ false → (o : Option Param)
+      → find (λ p. is_long (word p)) (params_of form) ≡ o → LongIs
+  of_option e None f = no_long
+      (found_other is_long (params_of form) flags f ∙ long_flag n form.flags
+      ∙ ap (λ b. cond b (Some (toggle n)) None) e)
+      (named_is ∙ ap (λ b. cond (is_among n form.options || b) (Some n) None) e
+      ∙ ap (λ b. cond b (Some n) None) (or_false (is_among n form.options))
+      ∙ sym option_is ∙ ap (option_map (λ (p : Param). p.id)) f)
+  of_option e (Some a) f = an_option a (found_param is_long (params_of form) flags a f)
+      (named_is ∙ ap (λ b. cond (is_among n form.options || b) (Some n) None) e
+      ∙ ap (λ b. cond b (Some n) None) (or_false (is_among n form.options))
+      ∙ sym option_is ∙ ap (option_map (λ (p : Param). p.id)) f)
+      (is_known is_long (params_of form) flags a f) e
+
+  long_is : (b : Bool) → is_among n form.flags ≡ b → LongIs
+  long_is true e = of_flag e
+  long_is false e = of_option e (find (λ p. is_long (word p)) (params_of form)) refl
+
+-- the rules of a form whose positionals can be numbered have these by index, options and flags by name, and no short
+-- names
 pub is_model : (form : Form) → length form.positionals < usize_max
-    → IsModel (rules_of form) (arguments form.positionals form.options)
-is_model form few = record {
-  at = λ k. finds (λ a. option_map_or (λ j. j == k) a.index false) (params_of form) (place_in form.positionals k)
-      (id_place k form.positionals form.options);
+    → all_differ (form.positionals ++ named form) ≡ true
+    → IsModel (rules_of form) (arguments form.positionals (named form) form.flags)
+is_model form few differ = record {
+  at = λ k. finds (λ a. option_map_or (λ j. j == k) a.index false) (params_of form) (map toggle form.flags)
+      (place_in form.positionals k) (no_flag_at k form.flags) (id_place k form.positionals form.options);
   fits = λ k id is. fits k id is;
-  option = λ n. finds (λ a. not (is_some a.index) && has_long a n) (params_of form)
-      (find (λ m. bytes_eq m n) form.options) (long_place n 1 form.positionals form.options);
-  short = λ y. no_short y (params_of form);
+  option = λ n. long_is form differ n (is_among n form.flags) refl;
+  short = λ y. found_later (λ a. not (is_some a.index) && has_short a y) (map word (params_of form))
+      (map toggle form.flags) (no_short y (params_of form)) ∙ no_short_flag y form.flags;
 }
   where
     fits : (k : ℕ) (id : Text) → place_in form.positionals k ≡ Some id → k + 1 ≤ usize_max

@@ -6,8 +6,8 @@ use Rattle.clap.specs.Simple.{App, built, filled_from, matches_of, names_of}
 use Rattle.clap.specs.Faults.{built_fault}
 use Rattle.clap.proofs.FaultLemmas.{leaf_fault}
 use Rattle.ht_asked.specs.Forms.{Form}
-use Rattle.ht_asked.specs.ByClap.{app_with, is_taken, optional, wanted}
-use Rattle.ht_asked.proofs.Rows.{Param, shape, word}
+use Rattle.ht_asked.specs.ByClap.{app_with, is_taken, optional, switch, wanted}
+use Rattle.ht_asked.proofs.Rows.{Param, shape, toggle, word}
 use Rattle.ht_asked.proofs.States.{idle_at}
 use Rattle.ht_asked.proofs.Settle.{answer}
 
@@ -26,21 +26,27 @@ abbrev pub params_of : Form → List Param
 params_of form = needs_from 1 form.positionals ++ map choice form.options
 
 abbrev pub rules_of : Form → List Rule
-rules_of form = map word (params_of form)
+rules_of form = map word (params_of form) ++ map toggle form.flags
 
 -- ---- building
 
-filled_options : (i : ℕ) (ns : List Text) → filled_from i (map optional ns) ≡ map word (map choice ns)
-filled_options i [] = refl
-filled_options i (n ∷ ns) = ap (λ rs. word (choice n) ∷ rs) (filled_options i ns)
+filled_flags : (i : ℕ) (fs : List Text) → filled_from i (map switch fs) ≡ map toggle fs
+filled_flags i [] = refl
+filled_flags i (f ∷ fs) = ap (λ rs. toggle f ∷ rs) (filled_flags i fs)
+
+filled_options : (i : ℕ) (ns fs : List Text)
+    → filled_from i (map optional ns ++ map switch fs) ≡ map word (map choice ns) ++ map toggle fs
+filled_options i [] fs = filled_flags i fs
+filled_options i (n ∷ ns) fs = ap (λ rs. word (choice n) ∷ rs) (filled_options i ns fs)
 
 -- the positionals are numbered in their order, as long as numbers suffice
-filled : (i : ℕ) (ids ns : List Text) → i + length ids ≤ usize_max
-    → filled_from i (map wanted ids ++ map optional ns) ≡ map word (needs_from i ids ++ map choice ns)
-filled i [] ns few = filled_options i ns
-filled i (id ∷ ids) ns few =
-    ap (λ j. word (need id i) ∷ filled_from j (map wanted ids ++ map optional ns)) next_is
-    ∙ ap (λ rs. word (need id i) ∷ rs) (filled (suc i) ids ns (omega (arith, few)))
+filled : (i : ℕ) (ids ns fs : List Text) → i + length ids ≤ usize_max
+    → filled_from i ((map wanted ids ++ map optional ns) ++ map switch fs)
+    ≡ map word (needs_from i ids ++ map choice ns) ++ map toggle fs
+filled i [] ns fs few = filled_options i ns fs
+filled i (id ∷ ids) ns fs few =
+    ap (λ j. word (need id i) ∷ filled_from j ((map wanted ids ++ map optional ns) ++ map switch fs)) next_is
+    ∙ ap (λ rs. word (need id i) ∷ rs) (filled (suc i) ids ns fs (omega (arith, few)))
   where
     next_is : min (i + 1) usize_max ≡ suc i
     next_is = omega (arith, few)
@@ -53,7 +59,7 @@ module _ (command : Text) (form : Form) (few : length form.positionals < usize_m
   app_by rules = record { top = shape command rules; subs = [] }
 
   built_is : built app ≡ app_by (rules_of form)
-  built_is = ap app_by (filled 1 form.positionals form.options (omega (arith, few)))
+  built_is = ap app_by (filled 1 form.positionals form.options form.flags (omega (arith, few)))
 
   -- what `clap` makes of the words is its walk over them, after the command's name
   pub walks : (name : Text) (words : List Text)

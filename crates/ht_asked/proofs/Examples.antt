@@ -1,5 +1,5 @@
 -- Worked examples of the commands, read by computation.
-use Rattle.std.proofs.Common.{◌≡◌, ◌∷◌, ◌++◌, ◌==◌, ℕ, true, false, List, [], map, Option, Some, None, refl, arith, codes}
+use Rattle.std.proofs.Common.{◌≡◌, ◌∷◌, ◌++◌, ◌==◌, ℕ, Bool, true, false, List, [], map, Option, Some, None, refl, arith, codes}
 use Rattle.std.specs.Prelude.{if◌then◌else◌}
 use Rattle.clap.specs.Walk.{Text}
 use Rattle.ht_asked.specs.Forms.{given, parts}
@@ -160,18 +160,29 @@ syncs : map asks (codes "sync n t o" ∷ codes "sync n --budget 1 t o" ∷ codes
 unfolding asked given parts
 syncs = refl
 
-abbrev shows : Option ℕ → Option Text → Option Asked
-shows fault start = job_of respond (record (of_tests (codes "t")) { extra = start }) (to_report (codes "o"))
-    (record unsaid { fault = fault })
+abbrev shows : Option ℕ → Option Text → Bool → Option Asked
+shows fault start lines = job_of respond (record (of_tests (codes "t")) { extra = start }) (to_report (codes "o"))
+    (record unsaid { fault = fault; lines = lines })
 
 -- `respond` has three names, and may have a fault and a start
 responds : map asks (codes "respond n t o" ∷ codes "respond n t o --fault 655358"
     ∷ codes "respond --fault=007 n --start s t o" ∷ codes "respond n t o --fault=0"
     ∷ codes "respond n t o --fault=655359" ∷ codes "respond n t" ∷ [])
-    ≡ shows None None ∷ shows (Some 655358) None ∷ shows (Some 7) (Some (codes "s"))
+    ≡ shows None None false ∷ shows (Some 655358) None false ∷ shows (Some 7) (Some (codes "s")) false
     ∷ None ∷ None ∷ None ∷ []
 unfolding asked given parts
 responds = refl
+
+-- a flag stands anywhere before `--`, once and without a value
+lines_shown : map asks (codes "respond n t o --lines" ∷ codes "respond --lines n t o --fault 7"
+    ∷ codes "respond n --lines t o --start=s" ∷ codes "respond n t -- o" ∷ codes "respond n t -- --lines"
+    ∷ codes "respond n t o --lines=true" ∷ codes "respond n t o --lines=" ∷ codes "respond n t o --lines --lines"
+    ∷ codes "respond n t o --fault --lines" ∷ codes "respond n t o --line" ∷ codes "sim n t r --lines" ∷ [])
+    ≡ shows None None true ∷ shows (Some 7) None true ∷ shows None (Some (codes "s")) true ∷ shows None None false
+    ∷ job_of respond (of_tests (codes "t")) (to_report (codes "--lines")) unsaid
+    ∷ None ∷ None ∷ None ∷ None ∷ None ∷ None ∷ []
+unfolding asked given parts
+lines_shown = refl
 
 abbrev reported : ℕ → Option Text → Option Asked
 reported budget start = job_of report

@@ -101,3 +101,21 @@ apart [] ys n e within = refl
 apart (x ∷ xs) ys n e within = λ i.
     differs x n ys (not_in_second x xs ys (first_differs x (xs ++ ys) e)) within i
     || apart xs ys n (others_differ x (xs ++ ys) e) within i
+
+-- where all differ, those of the second list do
+pub later_differ : (xs ys : List Text) → all_differ (xs ++ ys) ≡ true → all_differ ys ≡ true
+later_differ [] ys e = e
+later_differ (x ∷ xs) ys e = later_differ xs ys (others_differ x (xs ++ ys) e)
+
+-- none of these is among the others
+abbrev pub AreOther : List Text → List Text → Type 0
+AreOther [] others = Unit {0}
+AreOther (id ∷ ids) others = (is_among id others ≡ false) × AreOther ids others
+
+-- where all differ, those of the first list aren't among the last
+pub first_are_other : (xs ys zs : List Text) → all_differ (xs ++ (ys ++ zs)) ≡ true → AreOther xs zs
+first_are_other [] ys zs e = tt
+first_are_other (x ∷ xs) ys zs e = (
+  not_in_second x ys zs (not_in_second x xs (ys ++ zs) (first_differs x (xs ++ (ys ++ zs)) e)),
+  first_are_other xs ys zs (others_differ x (xs ++ (ys ++ zs)) e),
+)

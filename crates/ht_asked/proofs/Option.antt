@@ -9,7 +9,8 @@ use Rattle.clap.specs.Walk as walk
 use Rattle.clap.specs.Simple.{Shape}
 use Rattle.clap.specs.Faults.{long_fault, step_fault, settle_fault, turn_fault, use_fault}
 use Rattle.ht_asked.proofs.Uses.{Arguments, Use, add_use, has_use, read, read_option}
-use Rattle.ht_asked.proofs.Rows.{Param, word, shape, rows, has_row-rows, still_refused, fault_by, used_is}
+use Rattle.ht_asked.specs.Forms.{set}
+use Rattle.ht_asked.proofs.Rows.{Param, toggle, word, shape, rows, has_row-rows, still_refused, fault_by, flag_used_is, used_is}
 use Rattle.ht_asked.proofs.States.{idle_at, settle, IsKnown, IsModel}
 use Rattle.ht_asked.proofs.Settle.{held_at, answer, passes, fails, finish}
 use Rattle.ht_asked.proofs.Word.{turn_long, walk_long}
@@ -46,18 +47,20 @@ module _ (name : Text) (c : List Rule) where
       abbrev pub Reads : Type 0
       Reads = answer name c (idle_at us p k false) (x ∷ xs)
           ≡ option_and_then (finish name c)
-          (option_and_then (λ u. read_option (args.option n) v k u (next name c args x xs us p k false)) (settle p us))
+          (option_and_then (λ u. read_option (args.flag n) (args.option n) v k u (next name c args x xs us p k false))
+          (settle p us))
 
       -- an option that the command lacks is answered as in the reading
       pub unknown : arg_by_long c n ≡ None → args.option n ≡ None → Reads
       unknown is at = fails name c (idle_at us p k false) x xs (ap is_empty (option_turn None is))
           ∙ sym (ap (λ o. option_and_then (finish name c)
-          (option_and_then (λ u. read_option o v k u (next name c args x xs us p k false)) (settle p us))) at ∙ ap
+          (option_and_then (λ u. read_option (args.flag n) o v k u (next name c args x xs us p k false))
+          (settle p us))) at ∙ ap
           (option_and_then (finish name c)) (and_then_none (settle p us)))
 
     module _ (x : Text) (xs : List Text) (us : List Use) (p : Option Use) (k : ℕ)
         (no_end : bytes_eq x (45 ∷ 45 ∷ []) ≡ false) (n : Text) (a : Param)
-        (found : arg_by_long c n ≡ Some (word a)) (at : args.option n ≡ Some a.id) where
+        (found : arg_by_long c n ≡ Some (word a)) (at : args.option n ≡ Some a.id) (valued : args.flag n ≡ false) where
       -- `--name=value`
       module _ (y : Text) (long : long_of x ≡ Some (n, Some y)) where
         -- `--name=value` is answered as in the reading where the pending use is refused
@@ -69,7 +72,8 @@ module _ (name : Text) (c : List Rule) where
             (or_else (settle_fault c false (held_at name c us p)) _) _
             (still_refused (settle_fault c false (held_at name c us p)) _ fault))
             ∙ sym (ap (λ o. option_and_then (finish name c)
-            (option_and_then (λ u. read_option (args.option n) (Some y) k u (next name c args x xs us p k false)) o))
+            (option_and_then (λ u. read_option (args.flag n) (args.option n) (Some y) k u
+            (next name c args x xs us p k false)) o))
             none)
 
         module _ (after : List Use) (some : settle p us ≡ Some after)
@@ -83,10 +87,11 @@ module _ (name : Text) (c : List Rule) where
           right : option_and_then (finish name c)
               (option_and_then (λ u. read args false None k u xs) (add_use a.id y after))
               ≡ option_and_then (finish name c)
-              (option_and_then (λ u. read_option (args.option n) (Some y) k u (next name c args x xs us p k false))
-              (settle p us))
-          right = sym (ap₂ (λ o q. option_and_then (finish name c)
-              (option_and_then (λ u. read_option o (Some y) k u (next name c args x xs us p k false)) q)) at some)
+              (option_and_then (λ u. read_option (args.flag n) (args.option n) (Some y) k u
+              (next name c args x xs us p k false)) (settle p us))
+          right = sym (λ i. option_and_then (finish name c)
+              (option_and_then (λ u. read_option (valued i) (at i) (Some y) k u (next name c args x xs us p k false))
+              (some i)))
 
           -- `--name=value` is answered as in the reading where the option has a use already
           pub repeated : has_use a.id after ≡ true → Reads x xs us p k no_end n (Some y) long
@@ -123,7 +128,8 @@ module _ (name : Text) (c : List Rule) where
             (ap is_empty (option_turn x xs us p k no_end n None long (Some (word a)) found) ∙ still_refused
             (settle_fault c false (held_at name c us p)) [] fault)
             ∙ sym (ap (λ o. option_and_then (finish name c)
-            (option_and_then (λ u. read_option (args.option n) None k u (next name c args x xs us p k false)) o)) none)
+            (option_and_then (λ u. read_option (args.flag n) (args.option n) None k u
+            (next name c args x xs us p k false)) o)) none)
 
         -- `--name`, whose value comes next, is answered as in the reading, if the words after it are so
         pub waits : (after : List Use) → settle p us ≡ Some after → settle_fault c false (held_at name c us p) ≡ []
@@ -141,5 +147,75 @@ module _ (name : Text) (c : List Rule) where
               stopped = None;
             }) same)
             ∙ later a.id after k known
-            ∙ sym (ap₂ (λ o q. option_and_then (finish name c)
-            (option_and_then (λ u. read_option o None k u (next name c args x xs us p k false)) q)) at some)
+            ∙ sym (λ i. option_and_then (finish name c)
+            (option_and_then (λ u. read_option (valued i) (at i) None k u (next name c args x xs us p k false))
+            (some i)))
+
+    module _ (x : Text) (xs : List Text) (us : List Use) (p : Option Use) (k : ℕ)
+        (no_end : bytes_eq x (45 ∷ 45 ∷ []) ≡ false) (n id : Text)
+        (found : arg_by_long c n ≡ Some (toggle id)) (at : args.option n ≡ Some id) (flag : args.flag n ≡ true) where
+      -- a flag with a value is answered as in the reading
+      pub flag_with_value : (y : Text) (long : long_of x ≡ Some (n, Some y)) → Reads x xs us p k no_end n (Some y) long
+      flag_with_value y long =
+          fails name c (idle_at us p k false) x xs
+          (ap is_empty (option_turn x xs us p k no_end n (Some y) long (Some (toggle id)) found))
+          ∙ sym ((λ i. option_and_then (finish name c)
+          (option_and_then (λ u. read_option (flag i) (at i) (Some y) k u (next name c args x xs us p k false))
+          (settle p us))) ∙ ap (option_and_then (finish name c)) (and_then_none (settle p us)))
+
+      -- a flag alone
+      module _ (long : long_of x ≡ Some (n, None)) where
+        -- a flag is answered as in the reading where the pending use is refused
+        pub flag_refused : settle p us ≡ None → is_empty (settle_fault c false (held_at name c us p)) ≡ false
+            → Reads x xs us p k no_end n None long
+        flag_refused none fault =
+            fails name c (idle_at us p k false) x xs
+            (ap is_empty (option_turn x xs us p k no_end n None long (Some (toggle id)) found) ∙ still_refused
+            (or_else (settle_fault c false (held_at name c us p)) _) _
+            (still_refused (settle_fault c false (held_at name c us p)) _ fault))
+            ∙ sym (ap (λ o. option_and_then (finish name c)
+            (option_and_then (λ u. read_option (args.flag n) (args.option n) None k u
+            (next name c args x xs us p k false)) o)) none)
+
+        module _ (after : List Use) (some : settle p us ≡ Some after)
+            (none : settle_fault c false (held_at name c us p) ≡ [])
+            (same : (settled c (held_at name c us p)).rows ≡ rows after) where
+          flag_turn : turn_fault s [] (idle_at us p k false) x ≡ or_else (fault_by (has_use id after)) []
+          flag_turn = option_turn x xs us p k no_end n None long (Some (toggle id)) found
+              ∙ ap₂ (λ f rs. or_else (or_else f (use_fault false (toggle id) [] rs)) []) none same
+              ∙ ap (λ b. or_else (fault_by b) []) (has_row-rows id after)
+
+          flag_right : option_and_then (finish name c)
+              (option_and_then (λ u. read args false None k u xs) (add_use id set after))
+              ≡ option_and_then (finish name c)
+              (option_and_then (λ u. read_option (args.flag n) (args.option n) None k u
+              (next name c args x xs us p k false)) (settle p us))
+          flag_right = sym (λ i. option_and_then (finish name c)
+              (option_and_then (λ u. read_option (flag i) (at i) None k u (next name c args x xs us p k false))
+              (some i)))
+
+          -- a flag is answered as in the reading where it has a use already
+          pub flag_repeated : has_use id after ≡ true → Reads x xs us p k no_end n None long
+          flag_repeated e = fails name c (idle_at us p k false) x xs
+              (ap is_empty (flag_turn ∙ ap (λ b. or_else (fault_by b) []) e))
+              ∙ ap (λ b. option_and_then (finish name c)
+              (option_and_then (λ u. read args false None k u xs) (cond b None (Some (after ++ (id, set) ∷ [])))))
+              (sym e) ∙ flag_right
+
+          -- the first use of a flag is answered as in the reading, if the words after it are so
+          pub flag_taken : has_use id after ≡ false → Idle name c args model xs → Reads x xs us p k no_end n None long
+          flag_taken e later =
+              passes name c (idle_at us p k false) x xs (flag_turn ∙ ap (λ b. or_else (fault_by b) []) e)
+              ∙ ap (λ w. answer name c w xs) (option_walk x xs us p k no_end n None long (Some (toggle id)) found
+              ∙ ap (λ rs. record {
+                held = record { rows = rs; pending = None; skip = 0 };
+                waiting = walk.idle;
+                position = k;
+                is_trailing = false;
+                stopped = None;
+              })
+              (ap (used (toggle id) []) same ∙ flag_used_is id after e))
+              ∙ later (after ++ (id, set) ∷ []) None k false tt
+              ∙ ap (λ b. option_and_then (finish name c)
+              (option_and_then (λ u. read args false None k u xs) (cond b None (Some (after ++ (id, set) ∷ [])))))
+              (sym e) ∙ flag_right

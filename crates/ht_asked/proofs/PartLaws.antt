@@ -4,7 +4,7 @@ use Rattle.std.specs.Prelude.{option_and_then}
 use Rattle.std.specs.Str.{bytes_eq}
 use Rattle.clap.specs.Lexer.{long_of, short_of}
 use Rattle.clap.specs.Walk.{Text}
-use Rattle.ht_asked.specs.Forms.{Part, is_option, option, parts, positional, with_option, with_part, with_value}
+use Rattle.ht_asked.specs.Forms.{Part, is_option, option, parts, positional, set, with_option, with_part, with_value}
 use Rattle.ht_asked.proofs.Uses.{Arguments, Looks, Use, add_use, looks_by, read, read_option, read_positional, read_word}
 use Rattle.ht_asked.proofs.Uses as look
 use Rattle.ht_asked.proofs.Looks.{dashes, is_end, is_flags, is_long, is_plain, view}
@@ -29,11 +29,12 @@ module _ (args : Arguments) where
       ∙ ap (λ f. option_and_then f (add_at (args.at k) x uses)) (λ i u. ended xs (k + 1) u i)
 
   abbrev Idle : List Text → Type 0
-  Idle words = (k : ℕ) (uses : List Use) → read args false None k uses words ≡ placed args k uses (parts None words)
+  Idle words = (k : ℕ) (uses : List Use)
+      → read args false None k uses words ≡ placed args k uses (parts args.flag None words)
 
   abbrev Waits : List Text → Type 0
   Waits words = (k : ℕ) (uses : List Use) (name id : Text) → args.option name ≡ Some id
-      → read args false (Some id) k uses words ≡ placed args k uses (parts (Some name) words)
+      → read args false (Some id) k uses words ≡ placed args k uses (parts args.flag (Some name) words)
 
   -- an option that the command lacks
   lacks : (k : ℕ) (uses : List Use) (name value : Text) (o : Option (List Part)) → args.option name ≡ None
@@ -42,39 +43,52 @@ module _ (args : Arguments) where
       ∙ ap (λ a. option_and_then (λ u. placed args k u o) (add_at a value uses)) none
 
   lacks_waiting : (k : ℕ) (uses : List Use) (name : Text) (words : List Text) → args.option name ≡ None
-      → placed args k uses (parts (Some name) words) ≡ None
+      → placed args k uses (parts args.flag (Some name) words) ≡ None
   unfolding parts
   lacks_waiting k uses name [] none = refl
   lacks_waiting k uses name (x ∷ xs) none = go (is_option x)
     where
-      go : (b : Bool) → placed args k uses (cond b None (with_part (option name x) (parts None xs))) ≡ None
+      go : (b : Bool) → placed args k uses (cond b None (with_part (option name x) (parts args.flag None xs))) ≡ None
       go true = refl
-      go false = lacks k uses name x (parts None xs) none
+      go false = lacks k uses name x (parts args.flag None xs) none
 
   positional_word : (x : Text) (xs : List Text) (k : ℕ) (uses : List Use) → Idle xs
       → read_positional (args.at k) false x k uses (next xs)
-      ≡ placed args k uses (with_part (positional x) (parts None xs))
+      ≡ placed args k uses (with_part (positional x) (parts args.flag None xs))
   positional_word x xs k uses later = to_positional false k uses x xs (args.at k)
       ∙ ap (λ f. option_and_then f (add_at (args.at k) x uses)) (λ i u. later (k + 1) u i)
-      ∙ placed_positional args k uses x (parts None xs)
+      ∙ placed_positional args k uses x (parts args.flag None xs)
 
-  option_word : (name : Text) (v : Option Text) (xs : List Text) (k : ℕ) (uses : List Use) → Idle xs → Waits xs
-      → (o : Option Text) → args.option name ≡ o
-      → read_option o v k uses (next xs) ≡ placed args k uses (with_value name v (λ waiting. parts waiting xs))
-  option_word name (Some value) xs k uses later waits None e = sym (lacks k uses name value (parts None xs) e)
-  option_word name None xs k uses later waits None e = sym (lacks_waiting k uses name xs e)
-  option_word name (Some value) xs k uses later waits (Some id) e =
+  with_use : (name value : Text) (xs : List Text) (k : ℕ) (uses : List Use) → Idle xs → (id : Text)
+      → args.option name ≡ Some id
+      → option_and_then (λ u. read args false None k u xs) (add_use id value uses)
+      ≡ placed args k uses (with_part (option name value) (parts args.flag None xs))
+  with_use name value xs k uses later id e =
       ap (λ f. option_and_then f (add_use id value uses)) (λ i u. later k u i)
-      ∙ ap (λ o. option_and_then (λ u. placed args k u (parts None xs)) (add_at o value uses)) (sym e)
-      ∙ placed_option args k uses name value (parts None xs)
-  option_word name None xs k uses later waits (Some id) e = waits k uses name id e
+      ∙ ap (λ o. option_and_then (λ u. placed args k u (parts args.flag None xs)) (add_at o value uses)) (sym e)
+      ∙ placed_option args k uses name value (parts args.flag None xs)
+
+  option_word : (flag : Bool) (name : Text) (v : Option Text) (xs : List Text) (k : ℕ) (uses : List Use) → Idle xs
+      → Waits xs → (o : Option Text) → args.option name ≡ o
+      → read_option flag o v k uses (next xs)
+      ≡ placed args k uses (with_value flag name v (λ waiting. parts args.flag waiting xs))
+  option_word false name (Some value) xs k uses later waits None e =
+      sym (lacks k uses name value (parts args.flag None xs) e)
+  option_word false name None xs k uses later waits None e = sym (lacks_waiting k uses name xs e)
+  option_word true name (Some value) xs k uses later waits None e = refl
+  option_word true name None xs k uses later waits None e = sym (lacks k uses name set (parts args.flag None xs) e)
+  option_word false name (Some value) xs k uses later waits (Some id) e = with_use name value xs k uses later id e
+  option_word false name None xs k uses later waits (Some id) e = waits k uses name id e
+  option_word true name (Some value) xs k uses later waits (Some id) e = refl
+  option_word true name None xs k uses later waits (Some id) e = with_use name set xs k uses later id e
 
   abbrev look_by : Bool → Option (Text × Option Text) → Option Text → Looks
   look_by ends l o = cond ends look.ends (looks_by l o)
 
   abbrev parts_by : Bool → Bool → Option (Text × Option Text) → Text → List Text → Option (List Part)
   parts_by ends is_one l x xs = cond ends (Some (map positional xs))
-      (cond is_one (with_option l (λ waiting. parts waiting xs)) (with_part (positional x) (parts None xs)))
+      (cond is_one (with_option args.flag l (λ waiting. parts args.flag waiting xs))
+      (with_part (positional x) (parts args.flag None xs)))
 
   abbrev reads_by : Bool → Option (Text × Option Text) → Option Text → Option Text → Text → List Text → ℕ → List Use
       → Option (List Use)
@@ -90,7 +104,7 @@ module _ (args : Arguments) where
         ∙ sym (ap (λ b. placed args k uses (parts_by b (is_option x) (long_of x) x xs)) e)
     | is_long e f q l ↦
         ap₂ (λ b m. reads_by b m (short_of x) None x xs k uses) e l
-        ∙ option_word q.0 q.1 xs k uses later waits (args.option q.0) refl
+        ∙ option_word (args.flag q.0) q.0 q.1 xs k uses later waits (args.option q.0) refl
         ∙ sym (λ i. placed args k uses (parts_by (e i) (f i) (l i) x xs))
     | is_flags e f l g s ↦
         (λ i. reads_by (e i) (l i) (s i) None x xs k uses)
@@ -102,7 +116,7 @@ module _ (args : Arguments) where
   ]
 
   abbrev waiting_parts : Bool → Text → Text → List Text → Option (List Part)
-  waiting_parts is_one name x xs = cond is_one None (with_part (option name x) (parts None xs))
+  waiting_parts is_one name x xs = cond is_one None (with_part (option name x) (parts args.flag None xs))
 
   waiting_word : (x : Text) (xs : List Text) (k : ℕ) (uses : List Use) (name id : Text) → args.option name ≡ Some id
       → Idle xs
@@ -121,8 +135,8 @@ module _ (args : Arguments) where
     | is_plain e f l s ↦
         (λ i. reads_by (e i) (l i) (s i) (Some id) x xs k uses)
         ∙ ap (λ g. option_and_then g (add_use id x uses)) (λ i u. later k u i)
-        ∙ ap (λ o. option_and_then (λ u. placed args k u (parts None xs)) (add_at o x uses)) (sym is)
-        ∙ placed_option args k uses name x (parts None xs)
+        ∙ ap (λ o. option_and_then (λ u. placed args k u (parts args.flag None xs)) (add_at o x uses)) (sym is)
+        ∙ placed_option args k uses name x (parts args.flag None xs)
         ∙ sym (ap (λ b. placed args k uses (waiting_parts b name x xs)) f)
   ]
 

@@ -1,6 +1,6 @@
 -- The numbers that words ask for are in their ranges.
 use Rattle.std.proofs.Common.{◌≡◌, ◌≤◌, ◌∷◌, ◌&&◌, ℕ, Bool, true, false, cond, List, [], Option, Some, None, refl, subst, arith}
-use Rattle.std.specs.Prelude.{IfSome, find, map, nat_le, option_and_then, option_map}
+use Rattle.std.specs.Prelude.{IfSome, find, is_some, map, nat_le, option_and_then, option_map}
 use Rattle.std.specs.Str.{bytes_eq}
 use Rattle.std.specs.Str.Parse.{digits_value}
 use Rattle.std.proofs.lemmas.Bool.{leb-true}
@@ -58,23 +58,23 @@ abbrev AsksInRange : Option Asked → Type 0
 AsksInRange asks = IfSome asks IsInRange
 
 by_numbers : (kind : Kind) (reads : InNames) (makes : OutNames) (budget random weighted bred seed : Option ℕ)
-    (deep : Option Bool) (fault : Option (Option ℕ)) (size : Option ℕ)
+    (deep : Option Bool) (fault : Option (Option ℕ)) (size : Option ℕ) (lines : Bool)
     → IfSome budget (InRange MIN_BUDGET MAX_BUDGET) → IfSome random (InRange 0 MAX_RANDOM)
     → IfSome weighted (InRange 0 MAX_RANDOM) → IfSome bred (InRange 0 MAX_BRED)
     → IfSome seed (InRange 0 MAX_SEED) → IfSome fault FaultInRange → IfSome size (InRange MIN_SIZE MAX_SIZE)
     → AsksInRange (option_map
     (λ (n : Numbers). record { command = kind; reads = reads; makes = makes; numbers = n })
-    (numbers_with budget random weighted bred seed deep fault size))
-by_numbers kind reads makes (Some b) (Some r) (Some w) (Some n) (Some s) (Some d) (Some f) (Some z) bs rs ws ns ss fs
-    zs =
+    (numbers_with budget random weighted bred seed deep fault size lines))
+by_numbers kind reads makes (Some b) (Some r) (Some w) (Some n) (Some s) (Some d) (Some f) (Some z) lines bs rs ws ns ss
+    fs zs =
     record { budget = bs; random = rs.1; weighted = ws.1; bred = ns.1; seed = ss.1; fault = fs; size = zs }
-by_numbers kind reads makes _ _ _ _ _ _ _ _ bs rs ws ns ss fs zs = tt
+by_numbers kind reads makes _ _ _ _ _ _ _ _ lines bs rs ws ns ss fs zs = tt
 
 said_in_range : (kind : Kind) (texts : Sorted) → AsksInRange (job_said kind texts)
 said_in_range kind texts = by_numbers kind texts.reads texts.makes (budget_of texts.numbers.budget)
     (random_of texts.numbers.random) (random_of texts.numbers.weighted) (bred_of texts.numbers.bred)
     (seed_of texts.numbers.seed) (deep_of texts.numbers.depth) (fault_of texts.numbers.fault)
-    (demo_size texts.numbers.size)
+    (demo_size texts.numbers.size) (is_some texts.numbers.lines)
     (option_is_in_range 1000 MIN_BUDGET MAX_BUDGET (omega arith, omega arith) texts.numbers.budget)
     (option_is_in_range 0 0 MAX_RANDOM (omega arith, omega arith) texts.numbers.random)
     (option_is_in_range 0 0 MAX_RANDOM (omega arith, omega arith) texts.numbers.weighted)

@@ -10,9 +10,9 @@ use Rattle.ht_asked.proofs.NameLaws.{apart, differs, first_differs, found, left_
 use Rattle.ht_asked.proofs.PlaceLaws.{add_at, place}
 use Rattle.ht_asked.proofs.NewLaws.{names, zipped, zipped, zipped, zipped, has_room, has_room, has_room, has_room, AreFree, AreFree, are_new, free_more, new_more, new_option}
 
-module _ (positionals options : List Text) where
+module _ (positionals options flags : List Text) where
   abbrev args : Arguments
-  args = arguments positionals options
+  args = arguments positionals options flags
 
   -- each option is one of the command's
   abbrev pub are_known : List Use → Bool

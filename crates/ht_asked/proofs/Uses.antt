@@ -5,6 +5,7 @@ use Rattle.std.specs.List.{list_any}
 use Rattle.std.specs.Str.{bytes_eq}
 use Rattle.clap.specs.Lexer.{long_of, short_of}
 use Rattle.clap.specs.Walk.{Text}
+use Rattle.ht_asked.specs.Forms.{is_among, set}
 
 -- a use: an argument's name and its value
 abbrev pub Use : Type 0
@@ -40,27 +41,31 @@ looks false word = if bytes_eq word (45 ∷ 45 ∷ []) then ends
 abbrev pub Next : Type 0
 Next = Bool → Option Text → ℕ → List Use → Option (List Use)
 
-abbrev pub read_option : Option Text → Option Text → ℕ → List Use → Next → Option (List Use)
-read_option None value place uses next = None
-read_option (Some id) (Some value) place uses next =
+abbrev pub read_option : Bool → Option Text → Option Text → ℕ → List Use → Next → Option (List Use)
+read_option flag None value place uses next = None
+read_option false (Some id) (Some value) place uses next =
     option_and_then (next false None place) (add_use id value uses)
-read_option (Some id) None place uses next = next false (Some id) place uses
+read_option false (Some id) None place uses next = next false (Some id) place uses
+read_option true (Some id) (Some value) place uses next = None
+read_option true (Some id) None place uses next =
+    option_and_then (next false None place) (add_use id set uses)
 
 abbrev pub read_positional : Option Text → Bool → Text → ℕ → List Use → Next → Option (List Use)
 read_positional None ended word place uses next = None
 read_positional (Some id) ended word place uses next =
     option_and_then (next ended None (place + 1)) (add_use id word uses)
 
--- a command's arguments: the name at each place, and that of each option
+-- a command's arguments: the name at each place, that of each option or flag, and whether it is a flag
 pub record Arguments : Type 0 where
   pub at : ℕ → Option Text
   pub option : Text → Option Text
+  pub flag : Text → Bool
 
 abbrev pub read_word : Arguments → Looks → Option Text → Bool → Text → ℕ → List Use → Next
     → Option (List Use)
 read_word args ends None ended word place uses next = next true None place uses
 read_word args (names name value) None ended word place uses next =
-    read_option (args.option name) value place uses next
+    read_option (args.flag name) (args.option name) value place uses next
 read_word args flags None ended word place uses next = None
 read_word args plain None ended word place uses next =
     read_positional (args.at place) ended word place uses next
@@ -77,11 +82,14 @@ read args ended wants place uses (word ∷ rest) =
     read_word args (looks ended word) wants ended word place uses
     (λ e w p u. read args e w p u rest)
 
--- the positionals, from place 1 on, and the options
+-- the positionals, from place 1 on, the options with the flags, and which of them are flags
 abbrev pub place_in : List Text → ℕ → Option Text
 place_in ids zero = None
 place_in ids (suc k) = slice_get ids k
 
-abbrev pub arguments : List Text → List Text → Arguments
-arguments ids options =
-    record { at = place_in ids; option = λ name. find (λ n. bytes_eq n name) options }
+abbrev pub arguments : List Text → List Text → List Text → Arguments
+arguments ids options alone = record {
+  at = place_in ids;
+  option = λ name. find (λ n. bytes_eq n name) options;
+  flag = λ name. is_among name alone;
+}

@@ -12,8 +12,8 @@ use Rattle.clap.specs.Simple.{Shape}
 use Rattle.clap.specs.Faults.{check_fault, long_fault, positional_fault, defaults_fault, settle_fault, stray_fault, use_fault, walk_fault}
 use Rattle.ht_asked.proofs.Uses.{Arguments, Use, add_use, Looks, looks, read, read_word}
 use Rattle.ht_asked.proofs.Looks.{dashes}
-use Rattle.ht_asked.proofs.Rows.{Param, word, shape, rows, still_refused, and_false}
-use Rattle.ht_asked.proofs.States.{waits_at, IsKnown, Finds, IsModel, IsReadable}
+use Rattle.ht_asked.proofs.Rows.{Param, toggle, word, shape, rows, still_refused, and_false}
+use Rattle.ht_asked.proofs.States.{waits_at, IsKnown, FindsLong, IsModel, IsReadable, no_long, an_option, a_flag}
 use Rattle.ht_asked.proofs.Settle.{answer, passes, fails, fails_late, finish}
 use Rattle.ht_asked.proofs.Word.{turn_end, walk_end, turn_long, turn_plain, walk_plain, turn_flags, bundle_refused}
 use Rattle.ht_asked.proofs.Idle.{Idle}
@@ -56,13 +56,20 @@ module _ (name : Text) (c : List Rule) where
           (turn_end name c x wait_held (walk.option id) k refl e)
           ∙ ap (λ w. answer name c w xs) (walk_end name c x wait_held (walk.option id) k refl e) ∙ starved_ended xs
 
-      long_starves : (f : Option Rule) (v : Option Text) (id' : Option Text) → Finds c f id'
+      long_starves : (f : Option Rule) (v : Option Text) (id' : Option Text) (flag : Bool) → FindsLong c f id' flag
           → is_empty (long_fault c false f v wait_held) ≡ false
-      long_starves f v id' finds = elim finds [
-        | inl w ↦ ap (λ o. is_empty (long_fault c false o v wait_held)) w.0
-        | inr w ↦ ap (λ o. is_empty (long_fault c false o v wait_held)) w.1 ∙ by_value v w.0
+      long_starves f v id' flag finds = elim finds [
+        | no_long found at ↦ ap (λ o. is_empty (long_fault c false o v wait_held)) found
+        | an_option a found at known_now valued ↦ ap (λ o. is_empty (long_fault c false o v wait_held)) found
+            ∙ by_value v a
+        | a_flag name found at is ↦ ap (λ o. is_empty (long_fault c false o v wait_held)) found ∙ by_flag v name
       ]
         where
+          by_flag : (v : Option Text) (name : Text)
+              → is_empty (long_fault c false (Some (toggle name)) v wait_held) ≡ false
+          by_flag (Some y) name = refl
+          by_flag None name = still_refused (settle_fault c false wait_held) _ starved
+
           by_value : (v : Option Text) (a : Param) → is_empty (long_fault c false (Some (word a)) v wait_held) ≡ false
           by_value (Some y) a = still_refused (settle_fault c false wait_held) _ starved
           by_value None a = starved
@@ -73,7 +80,7 @@ module _ (name : Text) (c : List Rule) where
       wait_long x xs e q long = fails name c (waits_at id us k false) x xs
           (ap is_empty (turn_long name c x wait_held (walk.option id) k refl e q long)
           ∙ still_refused (long_fault c false (arg_by_long c q.0) q.1 wait_held) _
-          (long_starves (arg_by_long c q.0) q.1 (args.option q.0) (model.option q.0)))
+          (long_starves (arg_by_long c q.0) q.1 (args.option q.0) (args.flag q.0) (model.option q.0)))
 
       -- an option that waits for its value is refused if a word such as `-x` comes next
       pub wait_flags : (x : Text) (xs : List Text) → IsReadable x → bytes_eq x dashes ≡ false → long_of x ≡ None

@@ -35,8 +35,8 @@ abbrev pub makes_nothing : OutNames
 makes_nothing = record { tests = None; report = None; proofs = None }
 
 -- the numbers of a job: the budget of each search, how many random vectors come first, how many weighted ones after
--- them, how many are bred at most, the seed of all, whether the search is deep, the fault whose machine is shown, and
--- the size of a demonstration netlist
+-- them, how many are bred at most, the seed of all, whether the search is deep, the fault whose machine is shown,
+-- whether it is shown at each net, and the size of a demonstration netlist
 pub record Numbers : Type 0 where
   pub budget : ℕ
   pub random : ℕ
@@ -45,6 +45,7 @@ pub record Numbers : Type 0 where
   pub seed : ℕ
   pub deep : Bool
   pub fault : Option ℕ
+  pub lines : Bool
   pub size : ℕ
 
 -- what the numbers are where the words say nothing of them
@@ -57,6 +58,7 @@ unsaid = record {
   seed = DEFAULT_SEED;
   deep = false;
   fault = None;
+  lines = false;
   size = MIN_SIZE;
 }
 

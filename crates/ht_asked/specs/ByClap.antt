@@ -4,7 +4,8 @@ use Rattle.std.specs.Prelude.{map, option_and_then, option_map}
 use Rattle.clap.specs.Walk.{Row, Rule, Text, first_of, is_empty}
 use Rattle.clap.specs.Simple.{App, matches_of, new_app, new_rule, on_top}
 use Rattle.clap.specs.Faults.{fault_of}
-use Rattle.ht_asked.specs.Forms.{Form, Given}
+use Rattle.clap.specs.declared.builder.action.ArgAction.TheVariants.{SetTrue}
+use Rattle.ht_asked.specs.Forms.{Form, Given, option_texts}
 use Rattle.ht_asked.specs.Asked.{Asked}
 use Rattle.ht_asked.specs.Commands.{Command, asked_in}
 
@@ -21,10 +22,14 @@ wanted id = record (new_rule id) { required = true }
 abbrev pub optional : Text → Rule
 optional id = record (new_rule id) { long = Some id }
 
--- a command with these arguments: each by its own rule, the positionals first
+-- a flag of this name: its value is `true` where it is given, and else `false`
+abbrev pub switch : Text → Rule
+switch id = record (new_rule id) { long = Some id; action = Some SetTrue }
+
+-- a command with these arguments: each by its own rule, the positionals first, and the flags last
 abbrev pub app_with : Text → Form → App
 app_with name form = on_top (λ s. record s {
-  rules = map wanted form.positionals ++ map optional form.options;
+  rules = (map wanted form.positionals ++ map optional form.options) ++ map switch form.flags;
 }) (app_named name)
 
 -- `clap` takes the words
@@ -49,7 +54,7 @@ all_of (value ∷ rest) = all_with value (all_of rest)
 abbrev pub given_values : Form → (Text → Option Text) → Option Given
 given_values form value = option_map (λ texts. record {
   positionals = texts;
-  options = map value form.options;
+  options = option_texts form value;
 }) (all_of (map value form.positionals))
 
 -- what a command's words ask for, by the rows in which `clap` gives the values

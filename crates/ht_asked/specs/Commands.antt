@@ -1,5 +1,5 @@
 -- What the words of the command line ask for, by the table of the commands.
-use Rattle.std.specs.Prelude.{Bool, true, false, if◌then◌else◌, List, [], ◌∷◌, Option, Some, None, ℕ}
+use Rattle.std.specs.Prelude.{Bool, true, false, if◌then◌else◌, List, [], ◌∷◌, ◌++◌, Option, Some, None, is_some, ℕ}
 use Rattle.std.specs.Prelude.{codes, find, map, option_and_then, option_map, String, string_bytes}
 use Rattle.std.specs.Global.{Global}
 use Rattle.std.specs.Str.{bytes_eq}
@@ -13,7 +13,7 @@ use Rattle.ht_asked.specs.Asked.{Asked, InNames, Numbers, OutNames, makes_nothin
 use Rattle.ht_asked.specs.Forms.{Form, Given, given}
 use Rattle.ht_asked.specs.Numbers.{number_in, number_or}
 use Rattle.ht_asked.specs.Table.{Argument, Kind, Role, Row, command_row, file_made, file_read, kinds, says_budget}
-use Rattle.ht_asked.specs.Table.{says_bred, says_depth, says_fault, says_random, says_seed, says_size, says_weighted}
+use Rattle.ht_asked.specs.Table.{says_bred, says_depth, says_fault, says_lines, says_random, says_seed, says_size, says_weighted}
 
 -- the words as their bytes
 abbrev pub words_of : List (String Global) → List Text
@@ -64,6 +64,7 @@ pub record NumberTexts : Type 0 where
   pub seed : Option Text
   pub depth : Option Text
   pub fault : Option Text
+  pub lines : Option Text
   pub size : Option Text
 
 -- the texts of all arguments, by what they are for
@@ -85,6 +86,7 @@ nothing_sorted = record {
     seed = None;
     depth = None;
     fault = None;
+    lines = None;
     size = None;
   };
 }
@@ -108,6 +110,7 @@ sort_in says_bred text s = record s { numbers = record s.numbers { bred = text }
 sort_in says_seed text s = record s { numbers = record s.numbers { seed = text } }
 sort_in says_depth text s = record s { numbers = record s.numbers { depth = text } }
 sort_in says_fault text s = record s { numbers = record s.numbers { fault = text } }
+sort_in says_lines text s = record s { numbers = record s.numbers { lines = text } }
 sort_in says_size text s = record s { numbers = record s.numbers { size = text } }
 
 -- the texts of these arguments, after others and in their order, where there is one for each
@@ -117,16 +120,17 @@ sorted s (argument ∷ arguments) (text ∷ texts) = sorted (sort_in argument.ro
     texts
 sorted s _ _ = None
 
--- the texts of a command's positionals, and those of its options
+-- the texts of a command's positionals, and those of its options and flags
 abbrev pub sorted_by : Row → List Text → List (Option Text) → Option Sorted
-sorted_by row positionals options = option_and_then (λ s. sorted s row.options options)
+sorted_by row positionals options = option_and_then
+    (λ s. sorted s (row.options ++ row.flags) options)
     (sorted nothing_sorted row.positionals (map Some positionals))
 
--- the numbers and choices, where each is one
+-- the numbers and choices, where each is one, and whether a machine is shown at each net
 abbrev pub numbers_with : Option ℕ → Option ℕ → Option ℕ → Option ℕ → Option ℕ → Option Bool
-    → Option (Option ℕ) → Option ℕ → Option Numbers
+    → Option (Option ℕ) → Option ℕ → Bool → Option Numbers
 numbers_with (Some budget) (Some random) (Some weighted) (Some bred) (Some seed) (Some deep)
-    (Some fault) (Some size) =
+    (Some fault) (Some size) lines =
     Some (record {
       budget = budget;
       random = random;
@@ -135,14 +139,16 @@ numbers_with (Some budget) (Some random) (Some weighted) (Some bred) (Some seed)
       seed = seed;
       deep = deep;
       fault = fault;
+      lines = lines;
       size = size;
     })
-numbers_with _ _ _ _ _ _ _ _ = None
+numbers_with _ _ _ _ _ _ _ _ lines = None
 
 -- the numbers and choices that their texts say, where each of them says one
 abbrev pub numbers_said : NumberTexts → Option Numbers
 numbers_said t = numbers_with (budget_of t.budget) (random_of t.random) (random_of t.weighted)
     (bred_of t.bred) (seed_of t.seed) (deep_of t.depth) (fault_of t.fault) (demo_size t.size)
+    (is_some t.lines)
 
 -- the job of a command that the texts of its arguments ask for, where each of its numbers is one
 abbrev pub job_said : Kind → Sorted → Option Asked
@@ -172,6 +178,7 @@ command_of kind = record {
   form = record {
     positionals = argument_names (command_row kind).positionals;
     options = argument_names (command_row kind).options;
+    flags = argument_names (command_row kind).flags;
   };
   asks = λ g. option_and_then (job_said kind)
       (sorted_by (command_row kind) g.positionals g.options);

@@ -22,6 +22,7 @@ pub data Role : Type 0 where
   says_depth : Role
   says_fault : Role
   says_size : Role
+  says_lines : Role
 
 -- an argument of a command: its name, and what it is for
 pub record Argument : Type 0 where
@@ -83,22 +84,24 @@ pub data Kind : Type 0 where
   breed : Kind
   causes : Kind
 
--- a command: its name in lower case, its positionals in their order, and its options; whether it says something on Out,
--- whether it does so before the work, and whether it makes its files before the work
+-- a command: its name in lower case, its positionals in their order, its options, and its flags, which have no value;
+-- whether it says something on Out, whether it does so before the work, and whether it makes its files before the work
 pub record Row : Type 0 where
   pub name : Text
   pub positionals : List Argument
   pub options : List Argument
+  pub flags : List Argument
   pub says_on_out : Bool
   pub says_early : Bool
   pub makes_early : Bool
 
--- a command that says something on Out, and makes its files and says it once the work is done
+-- a command without flags that says something on Out, and makes its files and says it once the work is done
 abbrev pub row_with : Text → List Argument → List Argument → Row
 row_with name positionals options = record {
   name = name;
   positionals = positionals;
   options = options;
+  flags = [];
   says_on_out = true;
   says_early = false;
   makes_early = false;
@@ -131,8 +134,9 @@ command_row diagnose = row_with (codes "diagnose")
 command_row uninit = row_with (codes "uninit") (of_netlist ∷ of_out ∷ []) (of_budget ∷ [])
 command_row sync = row_with (codes "sync")
     (of_netlist ∷ output (codes "tests") out_port.Tests ∷ of_out ∷ []) (of_budget ∷ [])
-command_row respond = row_with (codes "respond") (of_netlist ∷ of_tests ∷ of_out ∷ [])
-    (number (codes "fault") says_fault ∷ of_start ∷ [])
+command_row respond = record (row_with (codes "respond") (of_netlist ∷ of_tests ∷ of_out ∷ [])
+    (number (codes "fault") says_fault ∷ of_start ∷ []))
+    { flags = number (codes "lines") says_lines ∷ [] }
 command_row report = row_with (codes "report")
     (of_netlist ∷ of_tests ∷ input (codes "proofs") in_port.Proofs
     ∷ output (codes "report") out_port.Report ∷ [])

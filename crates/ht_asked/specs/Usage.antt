@@ -26,10 +26,15 @@ abbrev pub option_shown : Argument → Text
 option_shown argument =
     codes " [--" ++ (argument.name ++ (codes " " ++ (value_shown argument.role ++ codes "]")))
 
--- a command with its positionals and its options
+-- a flag, which may be left out
+abbrev pub flag_shown : Argument → Text
+flag_shown argument = codes " [--" ++ (argument.name ++ codes "]")
+
+-- a command with its positionals, its options and its flags
 abbrev pub command_shown : Row → Text
 command_shown row = row.name
-    ++ (flat_map positional_shown row.positionals ++ flat_map option_shown row.options)
+    ++ (flat_map positional_shown row.positionals
+    ++ (flat_map option_shown row.options ++ flat_map flag_shown row.flags))
 
 -- these commands, with a comma between two, and the end of the line
 abbrev pub commands_shown : List Kind → Text

@@ -1,4 +1,5 @@
 pub mod RespondLaws
+pub mod TraceLaws
 pub mod ConsistencyLaws
 pub mod DiagnosisLaws
 pub mod RowTextLaws

@@ -1,3 +1,4 @@
+pub mod Traces
 pub mod Responses
 pub mod DiagnosisView
 pub mod Diagnoses

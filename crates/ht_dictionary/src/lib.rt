@@ -8,18 +8,26 @@
 //! `specs/DiagnosisTexts` has the text of a diagnosis, `specs/ResponseTexts` that of an observation. What a machine shows
 //! is written as the text that `diagnose` reads (`written_responses_are_read`). It contradicts neither the machine nor
 //! the representative of its class (`responses_are_consistent`).
+//!
+//! `trace` gives the value of every net in each frame of a machine's run (`specs/Traces`), which is written in the same
+//! way. At the outputs it is what the machine shows (`traces_show_outputs`).
 #![tactic(auto)]
 
 mod diagnosis;
 mod diagnosis_text;
+mod frames;
 mod response_text;
 mod response_theorems;
 mod row_text;
 mod theorems;
+mod trace_theorems;
 
 pub use diagnosis::{Diagnosis, diagnose};
 pub use diagnosis_text::{write_diagnosis_body, write_diagnosis_total};
-pub use response_text::{write_last_response, write_response_body, write_response_total};
+pub use frames::trace;
+pub use response_text::{
+    write_last_response, write_lines_total, write_response_body, write_response_total,
+};
 pub use response_theorems::{
     diagnoses_of_responses, members_respond_alike, responses_are_consistent, responses_are_read,
     written_responses_are_read,
@@ -29,3 +37,4 @@ pub use theorems::{
     explanations_are_consistent, first_wrong_response, members_are_contradicted_alike,
     texts_are_responses_or_malformed,
 };
+pub use trace_theorems::{traces_are_determined, traces_show_outputs};

@@ -1,8 +1,10 @@
 //! The text of responses.
-ghost use Rattle.std.specs.Prelude.{◌≡◌, IfOk};
+ghost use Rattle.std.specs.Prelude.{◌≡◌, ◌++◌, IfOk, codes};
+ghost use Rattle.std.specs.Fmt.{decimal};
 ghost use Rattle.ht_texts.specs.Lines.{with_lf};
 ghost use Rattle.ht_dictionary.specs.ResponseTexts.{row_text};
-ghost use Rattle.ht_dictionary.specs.Responses.{last_row, response_text, responses_line, rows_but_last};
+ghost use Rattle.ht_dictionary.specs.Responses.{last_row, lines_line, response_text, responses_line};
+ghost use Rattle.ht_dictionary.specs.Responses.{rows_but_last};
 
 use ht_serial::Observation;
 use ht_tern::Tern;
@@ -52,11 +54,35 @@ pub fn write_response_total(
 ) -> Result<Vec<u8>, AllocError>
     ensures { IfOk result (λ line. line.items ≡ with_lf (responses_line vectors outputs)) }
 {
+    write_counts(alloc, vectors, b" outputs ", outputs)
+}
+
+/// The line, with its LF, that says how many vectors there were and how many nets: `responses vectors 3 lines 17`.
+///
+/// # Errors
+///
+/// `AllocError`: out of memory.
+pub fn write_lines_total(alloc: Global, vectors: u64, nets: u32) -> Result<Vec<u8>, AllocError>
+    ensures { IfOk result (λ line. line.items ≡ with_lf (lines_line vectors nets)) }
+{
+    write_counts(alloc, vectors, b" lines ", nets)
+}
+
+// The line, with its LF, of how many vectors there were and how many of what was shown at each.
+fn write_counts(
+    alloc: Global,
+    vectors: u64,
+    shown: &[u8],
+    count: u32,
+) -> Result<Vec<u8>, AllocError>
+    ensures { IfOk result (λ line. line.items ≡ with_lf
+        (codes "responses vectors " ++ decimal vectors ++ shown.now ++ decimal count)) }
+{
     let mut line = Vec::new(alloc);
     line.extend_from_slice(b"responses vectors ")?;
     push_number(&mut line, vectors)?;
-    line.extend_from_slice(b" outputs ")?;
-    push_number(&mut line, u64::from(outputs))?;
+    line.extend_from_slice(shown)?;
+    push_number(&mut line, u64::from(count))?;
     line.extend_from_slice(b"\n")?;
     Ok(line)
 }

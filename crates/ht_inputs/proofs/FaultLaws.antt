@@ -59,7 +59,7 @@ late_refused : (j : Job) (texts : InPort → List ℕ) (basis : JobBasis) (port 
 late_refused j texts basis Netlist status faults late r above good =
     omega (arith, late, tests_later (may_state_start (asked_by j)))
 late_refused j texts basis Report status faults late r above good = r
-late_refused (job.Respond netlist tests out fault start) texts basis Proofs status faults late r above good =
+late_refused (job.Respond netlist tests out fault start lines) texts basis Proofs status faults late r above good =
     let (c, circuit, (representatives, values, classes, is, none)) = r.1 in none tt
 late_refused j texts basis Proofs status faults late r above good = above
 late_refused j texts basis port status faults late r above good =
@@ -86,8 +86,8 @@ lacks_refused j status a b faults refused h =
 -- nor does it with good inputs
 pub lacks_good : (j : Job) (a b : DeskView) (faults : ℕ) → AreGoodInputs (asked_by j) a
     → ¬ LacksFault (asked_by j) faults a b
-lacks_good (job.Respond netlist tests out number start) a b faults are h =
-    let asks = asked_by (job.Respond netlist tests out number start) in
+lacks_good (job.Respond netlist tests out number start lines) a b faults are h =
+    let asks = asked_by (job.Respond netlist tests out number start lines) in
     let same = same_told are.texts netlist a are.basis.circuit asks h.basis (are.say Netlist netlist refl)
     (are.told Netlist netlist refl) (h.before Netlist (omega arith) netlist refl) in
     above_unlisted h.basis.circuit are.basis.circuit number faults (sym same) h.above are.fault
@@ -98,9 +98,10 @@ lacks_good j a b faults are h = h.above
 -- where a netlist is accepted its circuit doesn't have the fault
 pub unlisted_accepts : (j : Job) (a : DeskView) → HasNoSuchFault (asked_by j) a → (basis : JobBasis)
     → AcceptsFile (asked_by j) basis Netlist a → ¬ HasFault (asked_by j) basis.circuit
-unlisted_accepts (job.Respond netlist tests out number start) a lacks basis accepts has =
-    let same = same_told lacks.texts netlist a lacks.circuit (asked_by (job.Respond netlist tests out number start))
-    basis lacks.netlist (lacks.told Netlist netlist (omega arith) refl) (accepts netlist refl) in
+unlisted_accepts (job.Respond netlist tests out number start lines) a lacks basis accepts has =
+    let same = same_told lacks.texts netlist a lacks.circuit
+    (asked_by (job.Respond netlist tests out number start lines)) basis lacks.netlist
+    (lacks.told Netlist netlist (omega arith) refl) (accepts netlist refl) in
     lacks.unlisted (subst (λ (c : net.Netlist). IsListed c number) (sym same) has)
 unlisted_accepts j a lacks basis accepts has = lacks.unlisted tt
 
@@ -123,36 +124,39 @@ not_malformed (Some n) name texts c d values line reads same is bad =
 not_malformed None name texts c d values line reads same is bad = cc
 
 -- a text that `respond` refuses at a port before the tests is good
-respond_refused : (netlist tests out : List ℕ) (number : Option ℕ) (start : Option (List ℕ)) (a b : DeskView)
-    (e : RunError) (port : InPort) (name : List ℕ) (basis : JobBasis)
-    (lacks : HasNoSuchFault (asked_by (job.Respond netlist tests out number start)) a)
-    → input_name (asked_by (job.Respond netlist tests out number start)) port ≡ Some name
-    → order_of (asked_by (job.Respond netlist tests out number start)) port < 2
-    → refused_port (asked_by (job.Respond netlist tests out number start)) e ≡ Some port
-    → (0 < order_of (asked_by (job.Respond netlist tests out number start)) port → lacks.circuit ≡ basis.circuit)
-    → ¬ IsRefusedFor (asked_by (job.Respond netlist tests out number start)) basis e (lacks.texts port)
-respond_refused netlist tests out number start a b TooLong Netlist name basis lacks reads early at same wrong =
+respond_refused : (netlist tests out : List ℕ) (number : Option ℕ) (start : Option (List ℕ)) (lines : Bool)
+    (a b : DeskView) (e : RunError) (port : InPort) (name : List ℕ) (basis : JobBasis)
+    (lacks : HasNoSuchFault (asked_by (job.Respond netlist tests out number start lines)) a)
+    → input_name (asked_by (job.Respond netlist tests out number start lines)) port ≡ Some name
+    → order_of (asked_by (job.Respond netlist tests out number start lines)) port < 2
+    → refused_port (asked_by (job.Respond netlist tests out number start lines)) e ≡ Some port
+    → (0 < order_of (asked_by (job.Respond netlist tests out number start lines)) port → lacks.circuit ≡ basis.circuit)
+    → ¬ IsRefusedFor (asked_by (job.Respond netlist tests out number start lines)) basis e (lacks.texts port)
+respond_refused netlist tests out number start lines a b TooLong Netlist name basis lacks reads early at same wrong =
     omega (arith, wrong, lacks.netlist.short)
-respond_refused netlist tests out number start a b (Refused error) Netlist name basis lacks reads early at same wrong =
+respond_refused netlist tests out number start lines a b (Refused error) Netlist name basis lacks reads early at same
+    wrong =
     wrong.none lacks.circuit lacks.netlist.stands
-respond_refused netlist tests out number start a b (BadStart line) Extra name basis lacks reads early at same wrong =
+respond_refused netlist tests out number start lines a b (BadStart line) Extra name basis lacks reads early at same
+    wrong =
     not_malformed start name lacks.texts lacks.circuit basis.circuit lacks.start line reads (same (omega arith))
     lacks.started wrong
-respond_refused netlist tests out number start a b e Netlist name basis lacks reads early at same wrong = cc
-respond_refused netlist tests out number start a b e Extra name basis lacks reads early at same wrong = cc
-respond_refused netlist tests out number start a b e port name basis lacks reads early at same wrong =
+respond_refused netlist tests out number start lines a b e Netlist name basis lacks reads early at same wrong = cc
+respond_refused netlist tests out number start lines a b e Extra name basis lacks reads early at same wrong = cc
+respond_refused netlist tests out number start lines a b e port name basis lacks reads early at same wrong =
     omega (arith, early)
 
 no_refusal : (j : Job) (a b : DeskView) (e : RunError) → RefusesFile (asked_by j) e a b
     → ¬ HasNoSuchFault (asked_by j) a
-no_refusal (job.Respond netlist tests out number start) a b e h lacks =
-    let asks = asked_by (job.Respond netlist tests out number start) in
+no_refusal (job.Respond netlist tests out number start lines) a b e h lacks =
+    let asks = asked_by (job.Respond netlist tests out number start lines) in
     elim (cases_lt (order_of asks h.port) 2) [
-      | inl early ↦ respond_refused netlist tests out number start a b e h.port h.name h.basis lacks h.reads early h.at
+      | inl early ↦ respond_refused netlist tests out number start lines a b e h.port h.name h.basis lacks h.reads early
+          h.at
           (λ some. same_told lacks.texts netlist a lacks.circuit asks h.basis lacks.netlist
           (lacks.told Netlist netlist (omega arith) refl) (h.before Netlist some netlist refl))
-          (text_at (job.Respond netlist tests out number start) e a b h lacks early)
-      | inr late ↦ unlisted_accepts (job.Respond netlist tests out number start) a lacks h.basis
+          (text_at (job.Respond netlist tests out number start lines) e a b h lacks early)
+      | inr late ↦ unlisted_accepts (job.Respond netlist tests out number start lines) a lacks h.basis
           (h.before Netlist (omega (arith, late))) (h.fault late)
     ]
 no_refusal j a b e h lacks = lacks.unlisted tt

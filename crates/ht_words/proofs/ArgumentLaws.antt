@@ -1,5 +1,5 @@
 -- A command with more arguments.
-use Rattle.std.proofs.Common.{◌≡◌, ◌∙◌, ◌∷◌, List, [], map, false, true, ap, append_assoc, Result, Ok, Err}
+use Rattle.std.proofs.Common.{◌≡◌, ◌∙◌, ◌∷◌, List, [], map, false, ap, append_assoc, Result, Ok, Err}
 use Rattle.std.specs.Prelude.{IfOk}
 use Rattle.std.proofs.lemmas.List.{append-nil}
 use Rattle.clap.specs.Built.{AddsArg}
@@ -11,6 +11,7 @@ use Rattle.clap.specs.declared.builder.command.Command.{Command}
 use Rattle.ht_asked.specs.ByClap.{app_named, app_with}
 use Rattle.ht_asked.specs.Forms.{Form}
 use Rattle.ht_words.specs.Arguments.{rule_for, with_rules}
+use Rattle.ht_words.specs.declared.definitions.ArgumentKind.TheVariants as kind
 
 abbrev with_all : App → List Rule → App
 with_all app rules = on_top (λ s. record s { rules = rules }) app
@@ -32,13 +33,15 @@ one_more old new arg rule rest adds local rule_is =
     ∙ with_more (app_of old) (rule_of arg) rest
     ∙ ap (λ (r : Rule). with_rules (app_of old) (r ∷ rest)) rule_is
 
--- a plain command with a form's positionals and then its options is the command of that form
-pub defined : {E : Type 0} (name : Text) (form : Form) (plain middle : App) (r : Result Command E)
-    → middle ≡ with_rules plain (map (rule_for false) form.positionals) → plain ≡ app_named name
-    → IfOk r (λ c. app_of c ≡ with_rules middle (map (rule_for true) form.options))
+-- a plain command with a form's positionals, then its options and then its flags is the command of that form
+pub defined : {E : Type 0} (name : Text) (form : Form) (plain named middle : App) (r : Result Command E)
+    → plain ≡ app_named name → named ≡ with_rules plain (map (rule_for kind.Positional) form.positionals)
+    → middle ≡ with_rules named (map (rule_for kind.Option) form.options)
+    → IfOk r (λ c. app_of c ≡ with_rules middle (map (rule_for kind.Flag) form.flags))
     → IfOk r (λ c. app_of c ≡ app_with name form)
-defined name form plain middle (Ok c) names is options =
-    let rules : Form → List Rule = λ f. map (rule_for true) f.options in
-    options ∙ ap (λ a. with_rules a (rules form)) names
-    ∙ ap (λ a. with_rules (with_rules a (map (rule_for false) form.positionals)) (rules form)) is
-defined name form plain middle (Err e) names is options = tt
+defined name form plain named middle (Ok c) is names options flags =
+    let first : App → App = λ a. with_rules a (map (rule_for kind.Positional) form.positionals) in
+    let second : App → App = λ a. with_rules a (map (rule_for kind.Option) form.options) in
+    let third : App → App = λ a. with_rules a (map (rule_for kind.Flag) form.flags) in
+    flags ∙ ap third (options ∙ ap second (names ∙ ap first is))
+defined name form plain named middle (Err e) is names options flags = tt

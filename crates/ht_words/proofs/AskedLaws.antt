@@ -1,9 +1,9 @@
 -- Whatever words ask for is asked for by a job.
 use Rattle.std.proofs.Common.{◌≡◌, ◌∷◌, Bool, ℕ, true, false, cond, List, [], Option, Some, None, refl, subst}
-use Rattle.std.specs.Prelude.{IfSome, codes, find, map, option_and_then, option_map}
+use Rattle.std.specs.Prelude.{IfSome, codes, find, is_some, option_and_then, option_map, map}
 use Rattle.std.specs.Str.{bytes_eq}
 use Rattle.clap.specs.Walk.{Text}
-use Rattle.ht_asked.specs.Forms.{Part, given, given_by, fits_form, options_of, parts, positionals_of, text_of}
+use Rattle.ht_asked.specs.Forms.{Part, given, given_by, fits_form, is_among, option_texts, options_of, parts, positionals_of, set_text, text_of}
 use Rattle.ht_asked.specs.Asked.{Asked, InNames, Numbers, OutNames, makes_nothing, reads_nothing, unsaid}
 use Rattle.ht_asked.specs.Table.{Kind}
 use Rattle.ht_asked.specs.Table.{sim, gen, check, norm, demo, compact, diagnose, uninit, sync, respond, report, breed, causes}
@@ -28,7 +28,7 @@ files_of netlist tests out proofs = record { netlist = netlist; tests = tests; r
 -- what a command asks for, by its positionals and the texts of its options
 abbrev asks_for : Kind → List Text → (Text → Option Text) → Option Asked
 asks_for kind names value =
-    (command_of kind).asks (record { positionals = names; options = map value (command_of kind).form.options })
+    (command_of kind).asks (record { positionals = names; options = option_texts (command_of kind).form value })
 
 by_gen : (n t r p : Text) (start first faults : Option Text) (budget random weighted seed : Option ℕ)
     (deep : Option Bool) → AsksForJob (option_map (λ (numbers : Numbers). record {
@@ -36,7 +36,7 @@ by_gen : (n t r p : Text) (start first faults : Option Text) (budget random weig
       reads = record { netlist = Some n; tests = first; report = None; proofs = None; faults = faults; extra = start };
       makes = record { tests = Some t; report = Some r; proofs = Some p };
       numbers = numbers;
-    }) (numbers_with budget random weighted (Some 2000) seed deep (Some None) (Some 1)))
+    }) (numbers_with budget random weighted (Some 2000) seed deep (Some None) (Some 1) false))
 by_gen n t r p start first faults (Some b) (Some x) (Some w) (Some s) (Some d) = (
   job.Gen (files_of n t r p) (record {
     budget = b;
@@ -58,25 +58,25 @@ by_budget : (j : ℕ → Job) (kind : Kind) (reads : InNames) (makes : OutNames)
     ≡ record { command = kind; reads = reads; makes = makes; numbers = record unsaid { budget = b } })
     → (budget : Option ℕ) → AsksForJob (option_map
     (λ (numbers : Numbers). record { command = kind; reads = reads; makes = makes; numbers = numbers })
-    (numbers_with budget (Some 0) (Some 0) (Some 2000) (Some 0) (Some false) (Some None) (Some 1)))
+    (numbers_with budget (Some 0) (Some 0) (Some 2000) (Some 0) (Some false) (Some None) (Some 1) false))
 by_budget j kind reads makes is (Some b) = (j b, is b)
 by_budget j kind reads makes is None = tt
 
 by_demo : (seed size : Option ℕ) → AsksForJob (option_map
     (λ (numbers : Numbers). record { command = demo; reads = reads_nothing; makes = makes_nothing; numbers = numbers })
-    (numbers_with (Some 1000) (Some 0) (Some 0) (Some 2000) seed (Some false) (Some None) size))
+    (numbers_with (Some 1000) (Some 0) (Some 0) (Some 2000) seed (Some false) (Some None) size false))
 by_demo (Some s) (Some z) = (job.Demo z s, refl)
 by_demo _ _ = tt
 
-by_fault : (n t o : Text) (start : Option Text) (fault : Option (Option ℕ)) → AsksForJob (option_map
+by_fault : (n t o : Text) (start : Option Text) (lines : Bool) (fault : Option (Option ℕ)) → AsksForJob (option_map
     (λ (numbers : Numbers). record {
       command = respond;
       reads = record reads_nothing { netlist = Some n; tests = Some t; extra = start };
       makes = record makes_nothing { report = Some o };
       numbers = numbers;
-    }) (numbers_with (Some 1000) (Some 0) (Some 0) (Some 2000) (Some 0) (Some false) fault (Some 1)))
-by_fault n t o start (Some f) = (job.Respond n t o f start, refl)
-by_fault n t o start None = tt
+    }) (numbers_with (Some 1000) (Some 0) (Some 0) (Some 2000) (Some 0) (Some false) fault (Some 1) lines))
+by_fault n t o start lines (Some f) = (job.Respond n t o f start lines, refl)
+by_fault n t o start lines None = tt
 
 by_breed : (n t o : Text) (start : Option Text) (bred seed : Option ℕ) → AsksForJob (option_map
     (λ (numbers : Numbers). record {
@@ -84,7 +84,7 @@ by_breed : (n t o : Text) (start : Option Text) (bred seed : Option ℕ) → Ask
       reads = record reads_nothing { netlist = Some n; tests = Some t; extra = start };
       makes = record makes_nothing { tests = Some o };
       numbers = numbers;
-    }) (numbers_with (Some 1000) (Some 0) (Some 0) bred seed (Some false) (Some None) (Some 1)))
+    }) (numbers_with (Some 1000) (Some 0) (Some 0) bred seed (Some false) (Some None) (Some 1) false))
 by_breed n t o start (Some b) (Some s) = (
   job.Breed (record { netlist = n; tests = t; out = o }) (record { vectors = b; seed = s; start = start }),
   refl,
@@ -105,7 +105,8 @@ by_names uninit (n ∷ o ∷ []) v = by_budget (job.Uninit n o) uninit (record r
     (record makes_nothing { report = Some o }) (λ b. refl) (budget_of (v (codes "budget")))
 by_names sync (n ∷ t ∷ o ∷ []) v = by_budget (job.Sync n t o) sync (record reads_nothing { netlist = Some n })
     (record makes_nothing { tests = Some t; report = Some o }) (λ b. refl) (budget_of (v (codes "budget")))
-by_names respond (n ∷ t ∷ o ∷ []) v = by_fault n t o (v (codes "start")) (fault_of (v (codes "fault")))
+by_names respond (n ∷ t ∷ o ∷ []) v = by_fault n t o (v (codes "start")) (is_some (set_text (v (codes "lines"))))
+    (fault_of (v (codes "fault")))
 by_names report (n ∷ t ∷ p ∷ r ∷ []) v = by_budget
     (λ b. job.Report (files_of n t r p) b (v (codes "start"))) report
     (record reads_nothing { netlist = Some n; tests = Some t; proofs = Some p; extra = v (codes "start") })
@@ -122,7 +123,7 @@ by_parts kind (Some ps) = go (fits_form (command_of kind).form ps)
   where
     go : (b : Bool) → AsksForJob (option_and_then (command_of kind).asks (cond b (Some (record {
       positionals = positionals_of ps;
-      options = map (λ name. text_of name (options_of ps)) (command_of kind).form.options;
+      options = option_texts (command_of kind).form (λ name. text_of name (options_of ps));
     })) None))
     go true = by_names kind (positionals_of ps) (λ name. text_of name (options_of ps))
     go false = tt
@@ -138,7 +139,7 @@ by_found test words (k ∷ ks) = go (test (command_of k)) (by_found test words k
 
     go : (b : Bool) → AsksForJob (option_and_then asks (find test (map command_of ks)))
         → AsksForJob (option_and_then asks (cond b (Some (command_of k)) (find test (map command_of ks))))
-    go true rest = by_parts k (parts None words)
+    go true rest = by_parts k (parts (λ name. is_among name (command_of k).form.flags) None words)
     go false rest = rest
 
 asked_for_job : (words : List Text) → AsksForJob (asked words)

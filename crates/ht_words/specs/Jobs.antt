@@ -1,5 +1,5 @@
 -- Jobs as what words ask for.
-use Rattle.std.specs.Prelude.{◌≡◌, ◌∷◌, List, [], Option, Some, None, Result, Err, IfOk, ℕ, codes, map, option_and_then}
+use Rattle.std.specs.Prelude.{◌≡◌, ◌∷◌, false, List, [], Option, Some, None, Result, Err, IfOk, ℕ, codes, map, option_and_then}
 use Rattle.clap.specs.Words.{Row, Text, first_of}
 use Rattle.ht_asked.specs.declared.limits.TheConstants.{DEFAULT_BRED, MAX_SEED, MAX_SIZE, MIN_SIZE}
 use Rattle.ht_asked.specs.Asked.{Asked, Numbers, OutNames, makes_nothing, reads_nothing, unsaid}
@@ -29,7 +29,7 @@ abbrev pub numbers_in : List Row → Option Numbers
 numbers_in rows = numbers_with (budget_of (first_of (codes "budget") rows))
     (random_of (first_of (codes "random") rows)) (random_of (first_of (codes "weighted") rows))
     (Some DEFAULT_BRED) (seed_of (first_of (codes "seed") rows))
-    (deep_of (first_of (codes "search") rows)) (Some None) (Some MIN_SIZE)
+    (deep_of (first_of (codes "search") rows)) (Some None) (Some MIN_SIZE) false
 
 -- the names of the files of a run in the rows, where none is missing
 abbrev pub files_in : List Row → Option (List Text)
@@ -119,11 +119,11 @@ asked_by (job.Sync netlist tests out budget) = record {
   makes = record makes_nothing { tests = Some tests; report = Some out };
   numbers = record unsaid { budget = budget };
 }
-asked_by (job.Respond netlist tests out fault start) = record {
+asked_by (job.Respond netlist tests out fault start lines) = record {
   command = respond;
   reads = record reads_nothing { netlist = Some netlist; tests = Some tests; extra = start };
   makes = record makes_nothing { report = Some out };
-  numbers = record unsaid { fault = fault };
+  numbers = record unsaid { fault = fault; lines = lines };
 }
 asked_by (job.Breed files options) = record {
   command = breed;

@@ -9,18 +9,20 @@ ghost use Rattle.ht_words.specs.Jobs.{IsAnswer, demo_in};
 
 use crate::job::{BreedFiles, BreedOptions, Job, WordsFault, gen_options, run_files};
 use crate::number::{bred, budget, fault_number, seed, size, wanted_number};
-use crate::value::{optional_value, value};
+use crate::value::{is_set, optional_value, value};
 use clap::ArgMatches;
 use ht_asked::MAX_SEED;
 use std::alloc::Global;
 
-/// The names of a command's arguments: the positionals in their order, each of them wanted, and the options.
+/// The names of a command's arguments: the positionals in their order, each of them wanted, the options, and the flags.
 #[derive(Clone, Copy)]
 pub struct Arguments {
     /// The positionals.
     pub positionals: &'static [&'static str],
-    /// The options.
+    /// The options, each with a value.
     pub options: &'static [&'static str],
+    /// The flags, which have none.
+    pub flags: &'static [&'static str],
 }
 
 /// The arguments of the command that the word names, in lower case.
@@ -28,33 +30,44 @@ pub fn arguments_of(word: &str) -> Option<Arguments>
     ensures { option_map (λ a. app_with word.now (arguments_form a)) result
         ≡ option_map (λ c. app_with c.name c.form) (command_named word.now) }
 {
-    let (positionals, options): (&[&str], &[&str]) = match word {
-        "sim" => (&["netlist", "tests", "report"], &["start"]),
+    let (positionals, options, flags): (&[&str], &[&str], &[&str]) = match word {
+        "sim" => (&["netlist", "tests", "report"], &["start"], &[]),
         "gen" => (
             &["netlist", "tests", "report", "proofs"],
             &[
                 "budget", "random", "seed", "start", "first", "faults", "weighted", "search",
             ],
+            &[],
         ),
-        "check" => (&["netlist", "tests", "report", "proofs"], &["start"]),
-        "norm" => (&["netlist", "out"], &[]),
-        "demo" => (&["size", "seed"], &[]),
-        "compact" => (&["netlist", "tests", "out"], &[]),
-        "diagnose" => (&["netlist", "tests", "responses", "out"], &[]),
-        "uninit" => (&["netlist", "out"], &["budget"]),
-        "sync" => (&["netlist", "tests", "out"], &["budget"]),
-        "respond" => (&["netlist", "tests", "out"], &["fault", "start"]),
+        "check" => (&["netlist", "tests", "report", "proofs"], &["start"], &[]),
+        "norm" => (&["netlist", "out"], &[], &[]),
+        "demo" => (&["size", "seed"], &[], &[]),
+        "compact" => (&["netlist", "tests", "out"], &[], &[]),
+        "diagnose" => (&["netlist", "tests", "responses", "out"], &[], &[]),
+        "uninit" => (&["netlist", "out"], &["budget"], &[]),
+        "sync" => (&["netlist", "tests", "out"], &["budget"], &[]),
+        "respond" => (
+            &["netlist", "tests", "out"],
+            &["fault", "start"],
+            &["lines"],
+        ),
         "report" => (
             &["netlist", "tests", "proofs", "report"],
             &["budget", "start"],
+            &[],
         ),
-        "breed" => (&["netlist", "tests", "out"], &["vectors", "seed", "start"]),
-        "causes" => (&["netlist", "tests", "out"], &["start"]),
+        "breed" => (
+            &["netlist", "tests", "out"],
+            &["vectors", "seed", "start"],
+            &[],
+        ),
+        "causes" => (&["netlist", "tests", "out"], &["start"], &[]),
         _ => return None,
     };
     Some(Arguments {
         positionals,
         options,
+        flags,
     })
 }
 
@@ -176,8 +189,9 @@ fn respond_job(alloc: Global, matches: &ArgMatches<'_>) -> Result<Job, WordsFaul
         result }
 {
     let fault = fault_number(matches)?;
+    let lines = is_set(matches, "lines");
     let start = optional_value(alloc, matches, "start")?;
-    with_values!(alloc, matches => Respond { netlist, tests, out; fault, start })
+    with_values!(alloc, matches => Respond { netlist, tests, out; fault, start, lines })
 }
 
 // The job of `report`.

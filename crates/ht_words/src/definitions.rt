@@ -7,8 +7,19 @@ ghost use Rattle.ht_asked.specs.ByClap.{app_named, app_with};
 ghost use Rattle.ht_words.specs.Arguments.{arguments_form, rule_for, with_rules};
 
 use crate::commands::{Arguments, arguments_of};
-use clap::{Arg, Command};
+use clap::{Arg, ArgAction, Command};
 use std::alloc::{AllocError, Global};
+
+/// How an argument stands among the words.
+#[derive(Clone, Copy)]
+pub enum ArgumentKind {
+    /// At its place; it has to be there.
+    Positional,
+    /// After its name, where it may be left out.
+    Option,
+    /// By its name alone, which may be left out.
+    Flag,
+}
 
 // A command that takes no request for help or for a version.
 fn plain_command<'a>(alloc: Global, name: &'a str) -> Command<'a>
@@ -19,15 +30,15 @@ fn plain_command<'a>(alloc: Global, name: &'a str) -> Command<'a>
         .disable_version_flag(true)
 }
 
-// A positional argument that has to be there, or an option with one value, which may be left out.
-fn argument<'a>(alloc: Global, id: &'a str, is_option: bool) -> Arg<'a>
-    ensures rule { rule_of result ≡ rule_for is_option id.entry.now }
+// A positional argument that has to be there, an option with one value, or a flag; either may be left out.
+fn argument<'a>(alloc: Global, id: &'a str, kind: ArgumentKind) -> Arg<'a>
+    ensures rule { rule_of result ≡ rule_for kind id.entry.now }
     ensures local { result.global ≡ false }
 {
-    if is_option {
-        Arg::new(alloc, id).long(id)
-    } else {
-        Arg::new(alloc, id).required(true)
+    match kind {
+        ArgumentKind::Positional => Arg::new(alloc, id).required(true),
+        ArgumentKind::Option => Arg::new(alloc, id).long(id),
+        ArgumentKind::Flag => Arg::new(alloc, id).long(id).action(ArgAction::SetTrue),
     }
 }
 
@@ -36,14 +47,14 @@ fn with_arguments<'a>(
     alloc: Global,
     command: Command<'a>,
     ids: &[&'a str],
-    is_option: bool,
+    kind: ArgumentKind,
 ) -> Result<Command<'a>, AllocError>
     ensures { IfOk result (λ c. app_of c
-        ≡ with_rules (app_of command.entry) (map (rule_for is_option) (texts ids.now))) }
+        ≡ with_rules (app_of command.entry) (map (rule_for kind) (texts ids.now))) }
 {
     let mut command = command;
     for id in ids {
-        command = command.arg(argument(alloc, id, is_option))?;
+        command = command.arg(argument(alloc, id, kind))?;
     }
     Ok(command)
 }
@@ -60,9 +71,10 @@ fn command_with<'a>(
         alloc,
         plain_command(alloc, name),
         arguments.positionals,
-        false,
+        ArgumentKind::Positional,
     )?;
-    with_arguments(alloc, command, arguments.options, true)
+    let command = with_arguments(alloc, command, arguments.options, ArgumentKind::Option)?;
+    with_arguments(alloc, command, arguments.flags, ArgumentKind::Flag)
 }
 
 /// The definition of the command that the word names, in lower case.

@@ -162,6 +162,8 @@ pub enum Job {
         fault: Option<u32>,
         /// The start to read, if one is stated.
         start: Option<FileName>,
+        /// Whether it is shown at each net, in place of the outputs.
+        lines: bool,
     },
     /// Writes the tests, and then vectors that are bred after them.
     Breed {

@@ -1,6 +1,7 @@
 //! The values of the arguments, as `clap` found them.
-ghost use Rattle.std.specs.Prelude.{◌≡◌, ◌≢◌, IfOk, option_map};
+ghost use Rattle.std.specs.Prelude.{◌≡◌, ◌≢◌, IfOk, is_some, option_map};
 ghost use Rattle.clap.specs.Words.{first_of, found_of, rows_of};
+ghost use Rattle.ht_asked.specs.Forms.{set_text};
 ghost use Rattle.ht_words.specs.Jobs.{Hears};
 ghost use Rattle.ht_words.specs.declared.job.WordsFault.TheVariants as fault;
 
@@ -37,4 +38,14 @@ pub fn value(alloc: Global, matches: &ArgMatches<'_>, id: &str) -> Result<FileNa
     ensures { Hears (first_of id.now (rows_of (found_of matches.now))) result }
 {
     optional_value(alloc, matches, id)?.ok_or(WordsFault::Usage)
+}
+
+/// Whether a flag is given: then its text is `true`.
+pub fn is_set(matches: &ArgMatches<'_>, id: &str) -> bool
+    ensures { result ≡ is_some (set_text (first_of id.now (rows_of (found_of matches.now)))) }
+{
+    match given_text(matches, id) {
+        Some(text) => text == "true",
+        None => false,
+    }
 }

@@ -129,13 +129,13 @@ X
 ~given n < SHIFT_REGISTER
 ~with t 0 responses vectors 0 outputs 1
 ~left r
-~run respond n t r
+~run respond n t r --lines
 ~given n < S27
 ~given t
 1100
-~ends 0 responses vectors 1 outputs 1
+~ends 0 responses vectors 1 lines 17
 ~left r
-1
+1100XXX0100011001
 ~run respond n t r --start s
 ~given n < TOGGLE
 ~given t

@@ -1,7 +1,7 @@
 //! Words: the forms of each command, and words that have none.
 
 pub const ROWS: &str = "~text USAGE
-usage: sim NETLIST TESTS REPORT [--start FILE], gen NETLIST TESTS REPORT PROOFS [--budget N] [--random N] [--seed S] [--start FILE] [--first FILE] [--faults FILE] [--weighted N] [--search plain|deep], check NETLIST TESTS REPORT PROOFS [--start FILE], norm NETLIST OUT, demo SIZE SEED, compact NETLIST TESTS OUT, diagnose NETLIST TESTS RESPONSES OUT, uninit NETLIST OUT [--budget N], sync NETLIST TESTS OUT [--budget N], respond NETLIST TESTS OUT [--fault N] [--start FILE], report NETLIST TESTS PROOFS REPORT [--budget N] [--start FILE], breed NETLIST TESTS OUT [--vectors N] [--seed S] [--start FILE], causes NETLIST TESTS OUT [--start FILE]
+usage: sim NETLIST TESTS REPORT [--start FILE], gen NETLIST TESTS REPORT PROOFS [--budget N] [--random N] [--seed S] [--start FILE] [--first FILE] [--faults FILE] [--weighted N] [--search plain|deep], check NETLIST TESTS REPORT PROOFS [--start FILE], norm NETLIST OUT, demo SIZE SEED, compact NETLIST TESTS OUT, diagnose NETLIST TESTS RESPONSES OUT, uninit NETLIST OUT [--budget N], sync NETLIST TESTS OUT [--budget N], respond NETLIST TESTS OUT [--fault N] [--start FILE] [--lines], report NETLIST TESTS PROOFS REPORT [--budget N] [--start FILE], breed NETLIST TESTS OUT [--vectors N] [--seed S] [--start FILE], causes NETLIST TESTS OUT [--start FILE]
 ~run
 ~given n < SHIFT_REGISTER
 ~given t
@@ -59,6 +59,10 @@ gen n t r p -b 5
 breed n t r --vectors 100001
 respond n t r --fault 0
 respond n t r --fault=655359
+respond n t r --lines=true
+respond n t r --lines --lines
+respond n t r --fault --lines
+sim n t r --lines
 gen n t r p --random x
 gen n t r p --random 100001
 gen n t r p --weighted=100001
@@ -101,6 +105,11 @@ sim --start=-s n t r
 responses vectors 3 outputs 1
 respond n t r
 respond n --fault=3 t --start - r
+~words 0 out
+responses vectors 3 lines 3
+respond n t r --lines
+respond n --lines t --start - r
+respond --fault 3 --lines n t -- r
 ~words 0 r
  classes 6 budget 1000
 gen n t r p
