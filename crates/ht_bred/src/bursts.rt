@@ -6,7 +6,7 @@ ghost use Rattle.ht_bred.specs.Extended.{AreExtended};
 
 use crate::live::{Live, all_live, own_faults, take_detected};
 use crate::vectors::append;
-use ht_breed::Breeder;
+use ht_breed::{Breeder, Burst};
 use ht_faults::{Classes, FaultList};
 use ht_net::{Circuit, Vectors};
 use ht_proofs::ClassGrader;
@@ -123,17 +123,55 @@ impl Bursts {
             vectors.old.list vectors.old vectors.new gain.vectors) }
         ensures few { IfOk result (λ gain. gain.vectors ≤ most) }
     {
-        let before = self.breeder.work();
+        let before = self.work();
         let state = grader.good_state(alloc)?;
-        let burst = self.breeder.burst(&state, most)?;
+        let burst = self.breed(&state, most)?;
         let count = apply_burst(grader, vectors, &burst.vectors, most)?;
-        let detected = take_detected(alloc, grader, classes, 0, &mut self.live)?;
-        self.breeder.learn(burst, &detected)?;
+        let detected = self.learn(alloc, classes, grader, burst)?;
         Ok(Gain {
             vectors: count,
-            detected: detected.len(),
-            work: self.breeder.work().saturating_sub(before),
+            detected,
+            work: self.work().saturating_sub(before),
         })
+    }
+
+    /// Breeds a burst of at most so many vectors, to be applied where the flip-flops of the good machine hold `state`. Who
+    /// applies it lets `learn` know.
+    ///
+    /// # Errors
+    /// Out of memory.
+    pub fn breed(&mut self, state: &[Tern], most: u32) -> Result<Burst, AllocError>
+        ensures burst { IfOk result (λ burst. IsBurst self.old most burst.vectors) }
+        ensures same { self.new ≡ self.old }
+    {
+        self.breeder.burst(state, most)
+    }
+
+    /// Learns of the last burst, which a grader applied last. How many representatives it detected that weren't detected
+    /// before.
+    ///
+    /// # Errors
+    /// Out of memory.
+    pub fn learn(
+        &mut self,
+        alloc: Global,
+        classes: &Classes,
+        grader: &ClassGrader,
+        burst: Burst,
+    ) -> Result<usize, AllocError>
+        requires classes { AreClasses grader.now.machines.circuit classes.now }
+        requires same { grader.now.representatives ≡ classes.now }
+        ensures { self.new ≡ self.old }
+    {
+        let detected = take_detected(alloc, grader, classes, 0, &mut self.live)?;
+        self.breeder.learn(burst, &detected)?;
+        Ok(detected.len())
+    }
+
+    /// The work of breeding so far: each evaluation of a gate in a frame for 64 candidates at once, forward or back, counts
+    /// 1.
+    pub fn work(&self) -> u64 {
+        self.breeder.work()
     }
 }
 

@@ -1,3 +1,4 @@
 pub mod Standing
 pub mod StandingOf
 pub mod Contents
+pub mod Kept

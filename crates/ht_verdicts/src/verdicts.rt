@@ -8,8 +8,10 @@ ghost use Rattle.ht_proofs.specs.Detections.{place_at};
 ghost use Rattle.ht_proofs.specs.ClassGraderView.{ClassGraderStandsFor};
 ghost use Rattle.ht_valid.specs.ValidFiles.{Content, IsJustified, IsOwn, said_by_kind};
 ghost use Rattle.ht_verdicts.specs.Contents.{IsContentOf};
+ghost use Rattle.ht_verdicts.specs.Kept.{kept_text};
 ghost use Rattle.ht_verdicts.specs.Standing.{AreNone, Decides, HasNoVerdict, entry_at, said_by_entry};
 
+use ht_entries::write_entry;
 use ht_faults::{Classes, FaultList};
 use ht_net::{Circuit, Vectors};
 use ht_proofs::ClassGrader;
@@ -135,6 +137,15 @@ impl<'c> Verdicts<'c> {
         self.entries[fault as usize] = Some(entry);
     }
 
+    /// The grader of all vectors so far, to be asked for detections and states.
+    pub fn grader(&self) -> &ClassGrader<'c>
+        ensures same { result.now ≡ self.now.grader }
+        ensures circuit { self.now.grader.machines.circuit ≡ self.now.circuit }
+        ensures classes { self.now.grader.representatives ≡ self.now.representatives }
+    {
+        &self.grader
+    }
+
     /// Whether a representative is open: the vectors so far don't detect it, and it has no entry.
     pub fn is_open(&self, fault: u32) -> bool
         requires { IsOwn self.now.circuit self.now.representatives fault }
@@ -164,6 +175,23 @@ impl<'c> Verdicts<'c> {
                 Some(entry) => said_by_entry(entry),
                 None => Said::Undetected,
             },
+        }
+    }
+
+    /// The lines that the entry of a fault has in the proofs, by its number from 0; none where it has no entry.
+    ///
+    /// # Errors
+    /// Out of memory; so it is also where the fault has the number 2^32 - 1, which no circuit's has.
+    pub fn entry_text(&self, alloc: Global, fault: u32) -> Result<Vec<u8>, AllocError>
+        ensures { IfOk result (λ text. text.items ≡ kept_text fault (entry_at self.now fault)) }
+    {
+        if fault == u32::MAX {
+            return Err(AllocError);
+        }
+        match self.entries.get(fault as usize) {
+            Some(Some(entry)) => write_entry(alloc, fault + 1, entry),
+            Some(None) => Ok(Vec::new(alloc)),
+            None => Ok(Vec::new(alloc)),
         }
     }
 
