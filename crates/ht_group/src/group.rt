@@ -306,6 +306,18 @@ impl<'c> Group<'c> {
         self.word(w, net).opposite(self.good_value(net))
     }
 
+    /// What each machine of a word shows at an output; a lane without a machine has what the good one shows.
+    pub fn shown(&self, w: u32, o: u32) -> Word
+        requires settled { self.now.settled ≡ true }
+        requires word { w < words_for (length self.now.machines) }
+        requires output { o < length self.now.circuit.outputs }
+        ensures { AreInLanes self.now w (lane result) (λ m. faulty_output self.now m o)
+            (good_output self.now o) }
+    {
+        let net = self.output_net(o);
+        self.word(w, net)
+    }
+
     /// The latch of each machine of a word after the frame; a lane without a machine has the good one.
     pub fn next(&self, w: u32, j: u32) -> Word
         requires settled { self.now.settled ≡ true }

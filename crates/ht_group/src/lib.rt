@@ -5,8 +5,8 @@
 //! taken once for all of them. `start` runs the good machine, and every lane has its values; `add` gives the next lane
 //! a fault and latches that differ in a few places; `settle` evaluates only the gates that a stuck line or a differing
 //! latch reaches, each at most once for a word, in the order of the circuit. Then `opposite` tells at which outputs the
-//! machines of a word differ for a tester, `next` gives their latches after the frame, and `clear` takes the machines
-//! away and puts back only the nets that they changed. Contracts see a group as a `GroupView`.
+//! machines of a word differ for a tester, `shown` what they show there, `next` gives their latches after the frame, and
+//! `clear` takes the machines away and puts back only the nets that they changed. Contracts see a group as a `GroupView`.
 //!
 //! `Diffs` holds, for one machine, the few latches whose value isn't the good machine's: the good state with these
 //! differences is the faulty one (state differences, as in PROOFS 1992). Contracts see the list of them.
