@@ -30,8 +30,8 @@ def is_option(word):
 
 
 def asked(words, count=4, options=OPTIONS, more=("start",), flags=()):
-    """The names, the numbers of the options, the words of more options, or None, and whether each flag is given, that the words
-    after a command ask for; None where they have no form."""
+    """The names, the numbers of the options, the words of more options, or None, and whether each flag is given, that the
+    words after a command ask for; None where they have no form."""
     names, given, left = [], {}, list(words)
     while left:
         word = left.pop(0)
