@@ -136,8 +136,12 @@ function frameOver(circuit, fault, inputs, held, gateValue, stick) {
   circuit.inputs.forEach((net, i) => put(net, inputs[i]));
   circuit.flops.forEach((net, j) => put(net, held[j]));
   for (const gate of circuit.sorted) put(gate, gateValue(gate.kind, gate.args.map((_, pin) => at(gate, pin))));
-  return { held, seen, at, next: circuit.flops.map(flop => at(flop, 0)), outputs: circuit.outputs.map(net => seen[net.id]) };
+  return frameWith(circuit, held, seen, at);
 }
+
+// The frame in which the loads see these values, with what each flip-flop takes.
+const frameWith = (circuit, held, seen, at) =>
+  ({ held, seen, at, next: circuit.flops.map(flop => at(flop, 0)), outputs: circuit.outputs.map(net => seen[net.id]) });
 
 // One frame of the good machine (fault null) or of a faulty one.
 const frame = (circuit, held, vector, fault) => frameOver(circuit, fault, vector, held, evaluate, () => fault.stuck);
@@ -147,6 +151,18 @@ function runMachine(circuit, vectors, fault, start) {
   let held = start || circuit.flops.map(() => X);
   return vectors.map(vector => {
     const made = frame(circuit, held, vector, fault);
+    held = made.next;
+    return made;
+  });
+}
+
+// The same frames by the text that `respond --lines` writes: a row for each vector, with the value of each net by its number.
+function framesOfText(circuit, text, fault, start) {
+  let held = start || circuit.flops.map(() => X);
+  return text.split("\n").slice(0, -1).map(row => {
+    const { seen, put, at } = lookedAt(fault, () => fault.stuck);
+    for (const net of circuit.order) put(net, SHOWN.indexOf(row[net.number]));
+    const made = frameWith(circuit, held, seen, at);
     held = made.next;
     return made;
   });

@@ -5,6 +5,7 @@ const engine = MODULE && runsModules() ? new Engine(MODULE) : null;
 const WHY_NOT = MODULE ? "This browser has no WebAssembly memory of 64 bits: it shows files and can't run the program." : "This page was made without the program: it shows the files that it holds.";
 const AT_ONCE = 300; // classes up to which the page asks for one run of gen
 const BATCH = 32; // classes to a run of gen above that
+const MOST_VALUES = 4000000; // lines times vectors up to which the program is asked for the values
 
 // What the user types. The fields are made once, so that what is typed stays when the tab is drawn anew.
 const typed = {
@@ -43,6 +44,30 @@ function chooseLine(number) {
   const lines = typed.netlist.value.split("\n"), from = lines.slice(0, number - 1).join("\n").length + (number > 1 ? 1 : 0);
   typed.netlist.focus();
   typed.netlist.setSelectionRange(from, from + (lines[number - 1] || "").length);
+}
+
+// ---- the values of lines
+
+// Asks the program what each line of a machine carries, the good one (null) or that of a fault of the report. Until it has
+// said so, the page shows its own simulation.
+async function askValues(fault) {
+  const { netlist, tests, start, circuit, vectors } = now;
+  if (!engine || !vectors.length || vectors.length * circuit.order.length > MOST_VALUES) return;
+  const words = ["respond", "netlist", "tests", "lines", "--lines", ...(fault ? ["--fault", String(fault.number)] : []), ...(start ? ["--start", "start"] : [])];
+  const answer = await engine.ask(words, { netlist, tests, ...(start ? { start } : {}) }, ["lines"]).catch(() => null);
+  if (!answer || answer.status !== 0 || now.circuit !== circuit || (fault && now.fault !== fault)) return;
+  takeValues(fault, framesOfText(circuit, answer.made.lines, fault && now.site, now.from));
+  show();
+}
+
+// The program's values take the place of the page's own, from which none may differ.
+function takeValues(fault, told) {
+  const own = fault ? now.faulty : now.good;
+  const isSame = told.length === own.length && told.every((frame, t) => frame.seen.every((value, id) => value === own[t].seen[id]));
+  now.told = { ...now.told, [fault ? "faulty" : "good"]: isSame };
+  if (!fault) now.good = told;
+  else Object.assign(now, { faulty: told, found: firstDetection(now.good, told) });
+  if (now.fault) now.strip = now.good.map((good, t) => effectOf(now.site, good, now.faulty[t]));
 }
 
 // ---- gen

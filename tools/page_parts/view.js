@@ -22,8 +22,9 @@ function load(files) {
   const vectors = readTests(circuit, files.tests || ""), said = files.report ? readReport(files.report) : null;
   for (const name of FILES) now[name] = files[name] || "";
   Object.assign(now, { circuit, from: start, vectors, said, entries: readProofs(now.proofs), good: runMachine(circuit, vectors, null, start) });
-  Object.assign(now, { at: 0, fault: null, site: null, faulty: null, step: null, stepAt: null, made: null, drawn: null, filter: "all", checked: "" });
+  Object.assign(now, { at: 0, fault: null, site: null, faulty: null, step: null, stepAt: null, made: null, drawn: null, filter: "all", checked: "", told: {} });
   showTyped();
+  now.asked = askValues(null);
   const gates = circuit.gates.length;
   $("lines").value = gates > ALL_UP_TO ? "effect" : "all";
   for (const value of ["all", "faint"]) $("lines").querySelector(`[value=${value}]`).disabled = gates > MOST_DRAWN;
@@ -38,6 +39,8 @@ function pick(number, jumps) {
   const site = readFault(now.circuit, fault.site, fault.stuck), faulty = runMachine(now.circuit, now.vectors, site, now.from);
   Object.assign(now, { fault, site, faulty, found: firstDetection(now.good, faulty), step: null, stepAt: null, made: null, drawn: null });
   now.strip = now.good.map((good, t) => effectOf(site, good, faulty[t]));
+  delete now.told.faulty;
+  now.asked = now.asked.then(() => askValues(fault));
   if (!jumps) return;
   now.at = fault.own.verdict === "detected" ? fault.own.vector - 1 : 0;
   if (now.tab === "Report" && fault.own.verdict !== "detected" && now.entries.has(fault.own.number)) now.tab = "Evidence";
@@ -145,6 +148,9 @@ function story() {
   p(`Fault ${fault.number}, ${fault.site} s-a-${fault.stuck}${fault.as ? `, equivalent to fault ${fault.as}` : ""}: ${own.verdict === "detected" ? `detected first by vector ${own.vector} at ${own.output}` : own.verdict}.`);
   const computed = now.found ? `${now.found.vector + 1} ${circuit.outputs[now.found.output].name}` : "";
   if (computed !== (own.verdict === "detected" ? `${own.vector} ${own.output}` : "")) p(`This page's own simulation says ${computed ? `detected ${computed}` : "not detected"}: please report that.`, "differs");
+  const told = Object.values(now.told);
+  if (told.includes(false)) p("The program says other values of lines than this page's own simulation: please report that.", "differs");
+  else if (told.length === 2) p("The values of lines are what the program says.", "note");
   if (!now.found && own.verdict !== "detected") p(causeText(ownCause()), "note");
   const good = now.good[now.at], faulty = now.faulty[now.at];
   if (!good) return;
