@@ -1,0 +1,5 @@
+pub mod PartLaws
+pub mod ToldLaws
+pub mod LineLaws
+pub mod RefusalLaws
+pub mod ListedLaws
