@@ -87,4 +87,4 @@ no_marks c lines circuit fit x d h k e l is =
     let inside : k < length name = subst (λ (n : Name). k < length n) (sym same) l in
     let there : get_or name k mark ≡ mark =
     get_or_default name k mark e inside ∙ (ap (λ (n : Name). get_or n k e) same ∙ is) in
-    fit x (inl (omega (arith, h, named), (k, (inside, there))))
+    fit x (inl (omega (arith, h, named), (k, inside, there)))

@@ -5,19 +5,21 @@ use Rattle.std.proofs.lemmas.List.{drop_more, drop_all, take_more, get_or_append
 use Rattle.std.proofs.lemmas.Simd.{map-map}
 use Rattle.std.proofs.Math.Seq.{get_or-append_seam}
 use Rattle.ht_tern.specs.declared.gate.Kind.{Kind}
+use Rattle.ht_tern.specs.Gate.{HasArity}
 use Rattle.ht_tern.specs.declared.gate.Kind.TheVariants.{And, Or}
 use Rattle.ht_net.specs.declared.net.NetId.{NetId}
 use Rattle.ht_net.specs.declared.names.NameId.{NameId}
 use Rattle.ht_net.specs.declared.fault.Site.{Site}
 use Rattle.ht_net.specs.Circuit.Lists.{AllDiffer}
-use Rattle.ht_net.specs.Circuit.Netlist.{Netlist, Gate, no_net, no_gate, first_gate_net, net_count, gate_at, IsCircuit}
+use Rattle.ht_net.specs.Circuit.Netlist.{Netlist, Gate, no_net, no_gate, first_gate_net, net_count, gate_at, IsCircuit, max_arguments}
 use Rattle.ht_net.specs.Build.Named.{Name, NamedDff, NamedGate, name_of, named_dffs, named_gates, named_of}
 use Rattle.ht_net.specs.Build.Draft.{Draft, draft_name, named_draft}
 use Rattle.ht_net.specs.Frames.Faults.{is_pin, is_data_pin}
 use Rattle.ht_net.proofs.PlaceLaws.{one_place}
 use Rattle.ht_slow.specs.Slow.{carrier_of}
 use Rattle.ht_slow.specs.ExpandedLine.{moved, net, before_net, both_net, line_net, read_net, read_args, read_dffs, read_gates, expanded_line}
-use Rattle.ht_slow.proofs.PlaceLaws.{dffs_length, gates_length}
+use Rattle.ht_slow.proofs.PlaceLaws.{dffs_length, gates_length, old_gate, read_gate}
+use Rattle.ht_slow.proofs.WiredLaws.{map_at, map_length}
 use Rattle.ht_expand.specs.Ids.{id_of}
 use Rattle.ht_expand.specs.Parts.{named_old, old_gates}
 
@@ -42,12 +44,15 @@ pub not_contained : {X : Type 0} (done : List X) (x : X) (rest all : List X) →
     → AllDiffer all → ¬ Contains done x
 not_contained done x rest all e differ at = new_of done x rest all e differ at.0 x at.1 at.2
 
+in_two : {X : Type 0} (xs : List X) (i : ℕ) → take i xs ++ drop i xs ≡ xs
+in_two xs zero = refl
+in_two [] (suc i) = refl
+in_two (x ∷ xs) (suc i) = ap (λ l. x ∷ l) (in_two xs i)
+
 -- the next item of a list
 pub next_is : {X : Type 0} (xs : List X) (i : ℕ) (d : X) → i < length xs → take i xs ++ get_or xs i d ∷ drop (i + 1) xs
     ≡ xs
-next_is [] i d h = absurd (omega arith)
-next_is (x ∷ xs) zero d h = refl
-next_is (x ∷ xs) (suc i) d h = ap (λ l. x ∷ l) (next_is xs i d (omega arith))
+next_is xs i d h = ap (λ l. take i xs ++ l) (sym (drop_more xs i d h)) ∙ in_two xs i
 
 -- ---- inputs
 
@@ -59,12 +64,12 @@ inputs_more first b new i h is more =
     more ∙ (ap (λ (d : Draft). record d { inputs = d.inputs ++ get_or d.names i [] ∷ [] }) is
     ∙ ap (λ (l : List Name). record first { inputs = l }) (sym (take_more first.names i [] h)))
 
-pub names_more : (first b new : Draft) (all : List Name) (i : ℕ) → i < length all
-    → b ≡ record first { names = take i all }
-    → new ≡ record b { names = b.names ++ get_or all i [] ∷ [] }
-    → new ≡ record first { names = take (i + 1) all }
-names_more first b new all i h is more =
-    more ∙ (ap (λ (d : Draft). record d { names = d.names ++ get_or all i [] ∷ [] }) is
+pub names_more : (first b new : Draft) (all : List Name) (i : ℕ) (x : Name) → i < length all
+    → b ≡ record first { names = take i all } → x ≡ get_or all i []
+    → new ≡ record b { names = b.names ++ x ∷ [] } → new ≡ record first { names = take (i + 1) all }
+names_more first b new all i x h is e more =
+    more ∙ (ap (λ (n : Name). record b { names = b.names ++ n ∷ [] }) e
+    ∙ ap (λ (d : Draft). record d { names = d.names ++ get_or all i [] ∷ [] }) is
     ∙ ap (λ (l : List Name). record first { names = l }) (sym (take_more all i [] h)))
 
 module _ (c : Netlist) (line : Site) (names : List Name) where
@@ -191,6 +196,60 @@ module _ (c : Netlist) (line : Site) (names : List Name) where
       (omega (arith, x_known, named)) (omega (arith, y_known, named))
       (sym (get_or-map (name_of big) big.outputs x no_net d (omega (arith, before, below, count)))
       ∙ (same ∙ get_or-map (name_of big) big.outputs y no_net d (omega (arith, below, count))))))
+
+  pub output_known : (o : ℕ) → IsCircuit big → o < length c.outputs
+      → (read_net c line false (get_or c.outputs o no_net)).0 < length names
+  output_known o is h =
+      let m = map_length c line c.outputs in
+      let named = is.named in
+      let known = subst (λ (x : NetId). x.0 < net_count big) (map_at c line c.outputs o no_net h)
+      (is.outputs_known o (omega (arith, m, h))) in
+      omega (arith, known, named)
+
+  -- ---- what a gate that was there reads
+
+  gate_is : (g : ℕ) → g < length c.gates → gate_at big g
+      ≡ record { kind = (gate_at c g).kind; args = read_args c line g 0 (gate_at c g).args }
+  gate_is g h =
+      let z : 0 + g ≡ g = omega arith in
+      old_gate c line 0 c.gates g h ∙ ap (λ (k : ℕ). read_gate c line k (gate_at c g)) z
+
+  gate_inside : (g : ℕ) → g < length c.gates → g < length big.gates
+  gate_inside g h = let n = gates_length c line 0 c.gates in omega (arith, n, h)
+
+  pub gate_arity : (g : ℕ) (kind : Kind) (ids : List NameId) → IsCircuit big → g < length c.gates
+      → kind ≡ (gate_at c g).kind → ids ≡ map id_of (read_args c line g 0 (gate_at c g).args)
+      → HasArity kind (length ids)
+  gate_arity g kind ids is h k e =
+      let args = read_args c line g 0 (gate_at c g).args in
+      let n : length ids ≡ length args = ap (λ (l : List NameId). length l) e ∙ length-map args id_of in
+      subst (λ (l : ℕ). HasArity kind l) (sym n) (subst (λ (k : Kind). HasArity k (length args)) (sym k)
+      (subst (λ (gate : Gate). HasArity gate.kind (length gate.args)) (gate_is g h) (is.arities g (gate_inside g h))))
+
+  pub gate_few : (g : ℕ) (ids : List NameId) → IsCircuit big → g < length c.gates
+      → ids ≡ map id_of (read_args c line g 0 (gate_at c g).args) → length ids ≤ max_arguments
+  gate_few g ids is h e =
+      let args = read_args c line g 0 (gate_at c g).args in
+      let n : length ids ≡ length args = ap (λ (l : List NameId). length l) e ∙ length-map args id_of in
+      let few : length args ≤ max_arguments = subst (λ (gate : Gate). length gate.args ≤ max_arguments) (gate_is g h)
+      (is.few_args g (gate_inside g h)) in
+      omega (arith, n, few)
+
+  pub gate_known : (g : ℕ) (ids : List NameId) → IsCircuit big → g < length c.gates
+      → ids ≡ map id_of (read_args c line g 0 (gate_at c g).args) → (i : ℕ) (d : NameId) → i < length ids
+      → (get_or ids i d).0 < length names
+  gate_known g ids is h e i d l =
+      let args = read_args c line g 0 (gate_at c g).args in
+      let n : length ids ≡ length args = ap (λ (l : List NameId). length l) e ∙ length-map args id_of in
+      let named = is.named in
+      let all : (i : ℕ) → i < length args → (get_or args i no_net).0 < net_count big =
+      subst (λ (gate : Gate). (i : ℕ) → i < length gate.args → (get_or gate.args i no_net).0 < net_count big)
+      (gate_is g h) (λ i l. is.known g i (gate_inside g h) l) in
+      let known = all i (omega (arith, l, n)) in
+      let same : (get_or ids i d).0 ≡ (get_or args i no_net).0 =
+      ap (λ (l : List NameId). (get_or l i d).0) e
+      ∙ ap (λ (x : NameId). x.0) (get_or-map id_of args i no_net d (omega (arith, l, n))) in
+      omega (arith, known, named, same)
 
   -- ---- all together
 

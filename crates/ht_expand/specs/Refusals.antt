@@ -1,5 +1,5 @@
 -- When the lines of a circuit can't be expanded. Out of memory may come at any lines.
-use Rattle.std.specs.Prelude.{◌≡◌, ℕ, List, [], ◌+◌, ◌*◌, ◌<◌, ◌≤◌, ◌⊎◌, Option, Some, None, length, get_or}
+use Rattle.std.specs.Prelude.{◌≡◌, ℕ, List, [], ◌+◌, ◌*◌, ◌<◌, ◌≤◌, ◌⊎◌, Option, Some, None, cond, ltb, length, get_or}
 use Rattle.std.specs.List.{Contains}
 use Rattle.ht_net.specs.declared.fault.Site.{Site}
 use Rattle.ht_net.specs.Circuit.Netlist.{Netlist, net_count, pin_count, max_nets, max_pins, max_dffs}
@@ -31,6 +31,12 @@ IsRefused c lines x = IsMarked c x ⊎ HasLongName c lines (length lines) x
 abbrev pub IsLeast : (ℕ → Type 0) → Option ℕ → Type 0
 IsLeast P None = (x : ℕ) → ¬ P x
 IsLeast P (Some x) = P x × ((y : ℕ) → y < x → ¬ P y)
+
+-- the lesser of two numbers that may be absent
+abbrev pub lesser_of : Option ℕ → Option ℕ → Option ℕ
+lesser_of None b = b
+lesser_of (Some x) None = Some x
+lesser_of (Some x) (Some y) = cond (ltb y x) (Some y) (Some x)
 
 -- the lines can be expanded as to their names
 abbrev pub NamesFit : Netlist → List Site → Type 0

@@ -5,7 +5,7 @@
 #![tactic(auto)]
 
 mod error;
-mod expand;
+mod expansion;
 mod line_names;
 mod listed;
 mod rebuild;
@@ -14,6 +14,6 @@ mod rewire;
 mod texts;
 
 pub use error::ExpandError;
-pub use expand::expand;
+pub use expansion::expand;
 pub use listed::listed_numbers;
 pub use texts::{write_counts, write_numbers, write_refusal};

@@ -17,7 +17,7 @@ use std::alloc::{AllocError, Global};
 /// The net whose name stands before the mark.
 pub(crate) fn owner(circuit: &Circuit, line: Site) -> NetId
     requires { IsLine circuit.now line }
-    ensures { result.0 ≡ owner circuit.now line }
+    ensures net { result.0 ≡ owner circuit.now line }
     ensures known { result.0 < net_count circuit.now }
 {
     match line {
@@ -125,6 +125,8 @@ pub(crate) fn names_over(
     requires is { at ≡ line_in circuit.now so_far.now line }
     ensures { IfOk result (λ names. names.items ≡ names_over circuit.now so_far.now line) }
 {
+    // for the proof: the circuit is well formed
+    let _ = so_far.nets();
     let stump = line_stump(alloc, circuit, line)?;
     let shown = shown_name(alloc, circuit, line, &stump)?;
     let before = with_ending(alloc, &stump, b'p')?;

@@ -29,14 +29,22 @@ fn add_name(builder: &mut Builder, name: &[u8]) -> Result<(), AllocError>
     }
 }
 
+// The name of a net.
+fn name_at(names: &[Items<u8>], i: usize) -> &[u8]
+    requires { i < length names.now }
+    ensures { result.now ≡ get_or names.now i [] }
+{
+    names[i].as_slice()
+}
+
 // Names the nets, each by its number.
 fn add_names(builder: &mut Builder, names: &[Items<u8>]) -> Result<(), AllocError>
     requires new { builder.old.names ≡ [] }
     requires differ { AllDiffer names.now }
     ensures { OnOk result (builder.new ≡ record builder.old { names = names.now }) }
 {
-    for name in names {
-        add_name(builder, name.as_slice())?;
+    for i in 0..names.len() {
+        add_name(builder, name_at(names, i))?;
     }
     Ok(())
 }
@@ -82,7 +90,8 @@ fn add_dffs(builder: &mut Builder, circuit: &Circuit, line: Site) -> Result<(), 
         add_dff(builder, circuit.inputs() + j, pin)?;
     }
     let pin = moved(circuit, carrier(circuit, line));
-    add_dff(builder, first_gate_net(circuit), pin)
+    add_dff(builder, first_gate_net(circuit), pin)?;
+    Ok(())
 }
 
 // Adds a flip-flop by nets.
@@ -110,6 +119,7 @@ fn add_gates(
 ) -> Result<(), AllocError>
     requires new { builder.old.gates ≡ [] }
     requires named { length builder.old.names ≡ net_count circuit.now + 3 }
+    requires well { IsCircuit (expanded_line circuit.now line builder.old.names) }
     requires line { IsLine circuit.now line }
     ensures { OnOk result (builder.new ≡ record builder.old {
         gates = (named_of (expanded_line circuit.now line builder.old.names)).gates; }) }
@@ -121,7 +131,8 @@ fn add_gates(
     let both = NameId(nets + 2);
     let before = NameId(first_gate_net(circuit));
     add_gate(builder, Kind::Or, shown, &[carried, both])?;
-    add_gate(builder, Kind::And, both, &[carried, before])
+    add_gate(builder, Kind::And, both, &[carried, before])?;
+    Ok(())
 }
 
 // Adds a gate.
@@ -157,6 +168,7 @@ fn add_old_gates(
 ) -> Result<(), AllocError>
     requires new { builder.old.gates ≡ [] }
     requires named { length builder.old.names ≡ net_count circuit.now + 3 }
+    requires well { IsCircuit (expanded_line circuit.now line builder.old.names) }
     ensures { OnOk result (builder.new ≡ record builder.old {
         gates = old_gates circuit.now line builder.old.names; }) }
 {
@@ -217,7 +229,8 @@ fn fill(
     add_inputs(builder, circuit.inputs())?;
     add_dffs(builder, circuit, line)?;
     add_gates(alloc, builder, circuit, line)?;
-    add_outputs(builder, circuit, line)
+    add_outputs(builder, circuit, line)?;
+    Ok(())
 }
 
 // The same, and the circuit of it. For the proof: the caller owns the builder, and drops it in one place.

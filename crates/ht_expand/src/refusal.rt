@@ -1,11 +1,11 @@
 //! Whether lines can be expanded.
-ghost use Rattle.std.specs.Prelude.{◌≡◌, ◌<◌, ◌↔◌, ◌⊎◌, ℕ, Option, length, IsTrue, IfOk, IfErr, OnOk};
+ghost use Rattle.std.specs.Prelude.{◌≡◌, ◌<◌, ◌↔◌, length, IsTrue, IfOk, IfErr, OnOk};
 ghost use Rattle.std.specs.List.{All, Contains};
 ghost use Rattle.ht_net.specs.Circuit.Netlist.{pin_count};
 ghost use Rattle.ht_slow.specs.Slow.{IsLine};
 ghost use Rattle.ht_statement.specs.Name.{max_name_bytes};
 ghost use Rattle.ht_slow.specs.LineNames.{before_name};
-ghost use Rattle.ht_expand.specs.Refusals.{mark, IsMarked, HasLongName, IsRefused, IsLeast, NamesFit, Refuses, Accepts};
+ghost use Rattle.ht_expand.specs.Refusals.{mark, IsMarked, HasLongName, IsRefused, IsLeast, lesser_of, NamesFit, Refuses, Accepts};
 
 use crate::ExpandError;
 use crate::line_names::{line_stump, owner};
@@ -21,8 +21,9 @@ const MAX_PINS: usize = 262_144;
 const MAX_DFFS: usize = 16_384;
 
 // The lesser of two numbers, of which there may be one or none.
+#[tactic(auto, using(std::proofs::lemmas::Bool::Decides::nat_tests))]
 fn lesser(a: Option<u32>, b: Option<u32>) -> Option<u32>
-    ensures { (P Q : ℕ → Type 0) → IsLeast P a → IsLeast Q b → IsLeast (λ x. P x ⊎ Q x) result }
+    ensures { result ≡ lesser_of a b }
 {
     let Some(x) = a else {
         return b;

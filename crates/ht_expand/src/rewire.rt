@@ -120,6 +120,8 @@ pub(crate) fn carrier(circuit: &Circuit, line: Site) -> NetId
     ensures carrier { result ≡ net (carrier_of circuit.now line) }
     ensures known { result.0 < net_count circuit.now }
 {
+    // for the proof: the circuit is well formed
+    let _ = circuit.nets();
     match line {
         Site::Stem(net) => net,
         Site::DffPin { dff } => circuit.dff_data(dff),

@@ -4,7 +4,7 @@ use Rattle.ht_net.specs.Circuit.Netlist.{Netlist, no_net, IsCircuit}
 use Rattle.ht_slow.specs.Slow.{IsLine}
 use Rattle.ht_slow.specs.Expanded.{line_in, expand_line, expanded}
 use Rattle.ht_expand.proofs.LineLaws.{well_next, dffs_so_far, line_so_far, expanded_more}
-use Rattle.ht_expand.proofs.expand.expand_lines.Goals as goal
+use Rattle.ht_expand.proofs.expansion.expand_lines.Goals as goal
 
 pub expand_next-requires-clause-line : goal.expand_next-requires-clause-line
 expand_next-requires-clause-line c = c.requires.lines.lines c.loop-line.line-index _ c.loop-line-test.true

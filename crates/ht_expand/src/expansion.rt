@@ -95,6 +95,8 @@ pub fn expand(
     ensures accepts { OnOk result (Accepts circuit.now lines.now) }
     ensures refusal { IfErr result (Refuses circuit.now lines.now) }
 {
+    // for the proof: the circuit is well formed
+    let _ = circuit.nets();
     check(alloc, circuit, lines)?;
     Ok(expand_lines(alloc, circuit, lines)?)
 }
