@@ -317,7 +317,10 @@ module _ (c : Netlist) (line : Site) (first : Draft) where
       let names : b.names ≡ first.names = ap (λ (d : Draft). d.names) is in
       let set = dffs_set first b new
       (b.dffs ++ record { out = get_or b.names out []; data_pin = get_or b.names pin.0 [] } ∷ []) is more in
-      (set.0, set.1 ∙ (λ i. b.dffs ++ record { out = get_or (names i) (o i) []; data_pin = get_or (names i) (p i).0 [] } ∷ []))
+      (set.0, set.1 ∙ (λ i. b.dffs ++ record {
+        out = get_or (names i) (o i) [];
+        data_pin = get_or (names i) (p i).0 [];
+      } ∷ []))
 
   pub dff_step : (b new : Draft) (j out : ℕ) (pin : NetId) → j < length c.dffs → DffsTo j b → out ≡ c.inputs + j
       → pin ≡ read_net c line (is_data_pin line j) (get_or c.dffs j no_net)
@@ -393,8 +396,10 @@ module _ (c : Netlist) (line : Site) (first : Draft) where
       (gates_end c line first.names (old_gates c line first.names) b.gates g h to.1)
 
   -- L and B after the gates that were there
-  pub gates_all : (b0 b1 b2 : Draft) (carried shown both before : NameId) → b0 ≡ record first { gates = old_gates c line first.names }
-      → carried ≡ id_of (net (moved c (carrier_of c line))) → shown.0 ≡ line_net c → both.0 ≡ both_net c → before.0 ≡ before_net c
+  pub gates_all : (b0 b1 b2 : Draft) (carried shown both before : NameId)
+      → b0 ≡ record first { gates = old_gates c line first.names }
+      → carried ≡ id_of (net (moved c (carrier_of c line))) → shown.0 ≡ line_net c → both.0 ≡ both_net c
+      → before.0 ≡ before_net c
       → b1 ≡ record b0 { gates = b0.gates ++ record {
         kind = Or;
         out = draft_name b0 shown;

@@ -20,9 +20,9 @@ abbrev pub numbers_text : List ℕ → List ℕ
 numbers_text numbers = with_lfs (map decimal numbers)
 
 -- why lines can't be expanded, as the line on Err has it
-abbrev pub refusal_text : Netlist → ExpandError → List ℕ
-refusal_text c (Name x) = codes "expand: name " ++ get_or c.names x.0 []
-refusal_text c TooManyNets = codes "expand: too many nets"
-refusal_text c TooManyPins = codes "expand: too many pins"
-refusal_text c TooManyDffs = codes "expand: too many flip-flops"
-refusal_text c NoMemory = codes "out of memory"
+abbrev pub expand_refusal : Netlist → ExpandError → List ℕ
+expand_refusal c (Name x) = codes "expand: name " ++ get_or c.names x.0 []
+expand_refusal c TooManyNets = codes "expand: too many nets"
+expand_refusal c TooManyPins = codes "expand: too many pins"
+expand_refusal c TooManyDffs = codes "expand: too many flip-flops"
+expand_refusal c NoMemory = codes "out of memory"

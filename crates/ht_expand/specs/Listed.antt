@@ -12,7 +12,8 @@ pub record IsNumberOf (faults : List Fault) (fault : Fault) (n : ℕ) : Type 0 w
   pub is : get_or faults (n - 1) no_fault ≡ fault
 
 -- Of each of so many lines the number of its first fault, slow to rise, and then that of its second.
-pub record AreListed (c : Netlist) (faults : List Fault) (lines : ℕ) (numbers : List ℕ) : Type 0 where
+pub record AreNumbersOfLines (c : Netlist) (faults : List Fault) (lines : ℕ) (numbers : List ℕ)
+    : Type 0 where
   pub count : length numbers ≡ 2 * lines
   pub rise : (k : ℕ) → k < lines
       → IsNumberOf faults (listed_fault c k false) (get_or numbers (2 * k) 0)

@@ -6,6 +6,10 @@ use Rattle.ht_net.specs.Build.Named.{Name, NamedGate, name_of}
 use Rattle.ht_net.specs.Circuit.Netlist.{Netlist, Gate, first_gate_net}
 use Rattle.ht_slow.specs.ExpandedLine.{read_args, expanded_line}
 
+-- name n of a list
+abbrev pub nth_name : List Name → ℕ → Name
+nth_name names n = get_or names n []
+
 -- the net whose name stands before the mark in the names of a line
 abbrev pub owner : Netlist → Site → ℕ
 owner c (Stem x) = x.0

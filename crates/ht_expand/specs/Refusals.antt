@@ -24,8 +24,8 @@ HasLongName c lines n x = (k : ℕ) × (k < n) × (owner c (chosen_line lines k)
     × (max_name_bytes < length (before_name c (chosen_line lines k)))
 
 -- a net for whose name the lines are refused
-abbrev pub IsRefused : Netlist → List Site → ℕ → Type 0
-IsRefused c lines x = IsMarked c x ⊎ HasLongName c lines (length lines) x
+abbrev pub IsRefusedNet : Netlist → List Site → ℕ → Type 0
+IsRefusedNet c lines x = IsMarked c x ⊎ HasLongName c lines (length lines) x
 
 -- the least number of which P holds, or none if it holds of none
 abbrev pub IsLeast : (ℕ → Type 0) → Option ℕ → Type 0
@@ -40,7 +40,7 @@ lesser_of (Some x) (Some y) = cond (ltb y x) (Some y) (Some x)
 
 -- the lines can be expanded as to their names
 abbrev pub NamesFit : Netlist → List Site → Type 0
-NamesFit c lines = (x : ℕ) → ¬ IsRefused c lines x
+NamesFit c lines = (x : ℕ) → ¬ IsRefusedNet c lines x
 
 -- the nets, the pins and the flip-flops of the expanded circuit keep the limits
 abbrev pub NetsFit : Netlist → List Site → Type 0
@@ -53,17 +53,17 @@ abbrev pub DffsFit : Netlist → List Site → Type 0
 DffsFit c lines = length c.dffs + length lines ≤ max_dffs
 
 -- the one reason, in the order of the checks
-abbrev pub Refuses : Netlist → List Site → ExpandError → Type 0
-Refuses c lines (Name x) = IsLeast (IsRefused c lines) (Some x.0)
-Refuses c lines TooManyNets = NamesFit c lines × (max_nets < net_count c + 3 * length lines)
-Refuses c lines TooManyPins = NamesFit c lines × NetsFit c lines
+abbrev pub RefusesLines : Netlist → List Site → ExpandError → Type 0
+RefusesLines c lines (Name x) = IsLeast (IsRefusedNet c lines) (Some x.0)
+RefusesLines c lines TooManyNets = NamesFit c lines × (max_nets < net_count c + 3 * length lines)
+RefusesLines c lines TooManyPins = NamesFit c lines × NetsFit c lines
     × (max_pins < pin_count c + 5 * length lines)
-Refuses c lines TooManyDffs = NamesFit c lines × NetsFit c lines × PinsFit c lines
+RefusesLines c lines TooManyDffs = NamesFit c lines × NetsFit c lines × PinsFit c lines
     × (max_dffs < length c.dffs + length lines)
-Refuses c lines NoMemory = Unit {0}
+RefusesLines c lines NoMemory = Unit {0}
 
 -- the lines can be expanded
-pub record Accepts (c : Netlist) (lines : List Site) : Type 0 where
+pub record CanExpand (c : Netlist) (lines : List Site) : Type 0 where
   pub names : NamesFit c lines
   pub nets : NetsFit c lines
   pub pins : PinsFit c lines

@@ -6,7 +6,7 @@ ghost use Rattle.ht_slow.specs.Slow.{IsLine};
 ghost use Rattle.ht_slow.specs.LineNames.{HasNoMark};
 ghost use Rattle.ht_slow.specs.Expanded.{AreLines, expand_line, expanded, line_in};
 ghost use Rattle.ht_expand.specs.Made.{or_given};
-ghost use Rattle.ht_expand.specs.Refusals.{Accepts, Refuses};
+ghost use Rattle.ht_expand.specs.Refusals.{CanExpand, RefusesLines};
 
 use crate::ExpandError;
 use crate::line_names::names_over;
@@ -92,8 +92,8 @@ pub fn expand(
     requires { AreLines circuit.now lines.now }
     ensures made { IfOk result
         (λ made. or_given circuit.now made ≡ expanded circuit.now lines.now) }
-    ensures accepts { OnOk result (Accepts circuit.now lines.now) }
-    ensures refusal { IfErr result (Refuses circuit.now lines.now) }
+    ensures accepts { OnOk result (CanExpand circuit.now lines.now) }
+    ensures refusal { IfErr result (RefusesLines circuit.now lines.now) }
 {
     // for the proof: the circuit is well formed
     let _ = circuit.nets();

@@ -1,7 +1,7 @@
 //! The numbers of the listed faults.
 ghost use Rattle.std.specs.Prelude.{◌≡◌, ◌<◌, ◌≤◌, ◌+◌, ◌*◌, ◌^◌, ◌++◌, ◌∷◌, [], false, true, length, IfOk, IfSome};
 ghost use Rattle.ht_slow.specs.Expanded.{listed_fault};
-ghost use Rattle.ht_expand.specs.Listed.{IsNumberOf, AreListed};
+ghost use Rattle.ht_expand.specs.Listed.{IsNumberOf, AreNumbersOfLines};
 
 use ht_faults::FaultList;
 use ht_net::{Circuit, Fault, Site};
@@ -56,7 +56,8 @@ pub fn listed_numbers(
     lines: u32,
 ) -> Result<Vec<u32>, AllocError>
     requires { length circuit.now.gates + 2 * lines < 2 ^ 32 }
-    ensures { IfOk result (λ numbers. AreListed circuit.now faults.now lines numbers.items) }
+    ensures { IfOk result
+        (λ numbers. AreNumbersOfLines circuit.now faults.now lines numbers.items) }
 {
     let mut numbers = Vec::new(alloc);
     let mut last = 0;

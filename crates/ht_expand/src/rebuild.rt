@@ -1,5 +1,5 @@
 //! A circuit with one line expanded, in the making.
-ghost use Rattle.std.specs.Prelude.{◌≡◌, ◌<◌, ◌≤◌, ◌+◌, ◌++◌, ◌∷◌, [], length, take, get_or, map, IfOk, OnOk};
+ghost use Rattle.std.specs.Prelude.{◌≡◌, ◌<◌, ◌≤◌, ◌+◌, ◌++◌, ◌∷◌, [], length, take, map, IfOk, OnOk};
 ghost use Rattle.std.specs.List.{All, Contains};
 ghost use Rattle.ht_tern.specs.Gate.{HasArity};
 ghost use Rattle.ht_net.specs.Circuit.Lists.{AllDiffer};
@@ -9,7 +9,7 @@ ghost use Rattle.ht_net.specs.Build.Names.{IsNewName};
 ghost use Rattle.ht_net.specs.Build.Draft.{named_draft, draft_name, IsName};
 ghost use Rattle.ht_slow.specs.Slow.{IsLine};
 ghost use Rattle.ht_slow.specs.ExpandedLine.{expanded_line};
-ghost use Rattle.ht_expand.specs.Parts.{old_gates};
+ghost use Rattle.ht_expand.specs.Parts.{nth_name, old_gates};
 
 use crate::rewire::{carrier, first_gate_net, is_data_pin, moved, read_args, read_net};
 use ht_items::Items;
@@ -32,7 +32,7 @@ fn add_name(builder: &mut Builder, name: &[u8]) -> Result<(), AllocError>
 // The name of a net.
 fn name_at(names: &[Items<u8>], i: usize) -> &[u8]
     requires { i < length names.now }
-    ensures { result.now ≡ get_or names.now i [] }
+    ensures { result.now ≡ nth_name names.now i }
 {
     names[i].as_slice()
 }
@@ -53,7 +53,7 @@ fn add_names(builder: &mut Builder, names: &[Items<u8>]) -> Result<(), AllocErro
 fn add_input(builder: &mut Builder, input: u32) -> Result<(), AllocError>
     requires { input < length builder.old.names }
     ensures { OnOk result (builder.new ≡ record builder.old {
-        inputs = builder.old.inputs ++ get_or builder.old.names input [] ∷ []; }) }
+        inputs = builder.old.inputs ++ nth_name builder.old.names input ∷ []; }) }
 {
     match builder.input(NameId(input)) {
         Ok(()) => Ok(()),
@@ -100,8 +100,8 @@ fn add_dff(builder: &mut Builder, out: u32, data_pin: NetId) -> Result<(), Alloc
     requires pin { data_pin.0 < length builder.old.names }
     ensures { OnOk result (builder.new ≡ record builder.old {
         dffs = builder.old.dffs ++ record {
-          out = get_or builder.old.names out [];
-          data_pin = get_or builder.old.names data_pin.0 [];
+          out = nth_name builder.old.names out;
+          data_pin = nth_name builder.old.names data_pin.0;
         } ∷ []; }) }
 {
     match builder.dff(NameId(out), NameId(data_pin.0)) {
@@ -183,9 +183,9 @@ fn add_old_gates(
 // Adds an output.
 fn add_output(builder: &mut Builder, net: NetId) -> Result<(), AllocError>
     requires known { net.0 < length builder.old.names }
-    requires new { ¬ Contains builder.old.outputs (get_or builder.old.names net.0 []) }
+    requires new { ¬ Contains builder.old.outputs (nth_name builder.old.names net.0) }
     ensures { OnOk result (builder.new ≡ record builder.old {
-        outputs = builder.old.outputs ++ get_or builder.old.names net.0 [] ∷ []; }) }
+        outputs = builder.old.outputs ++ nth_name builder.old.names net.0 ∷ []; }) }
 {
     match builder.output(NameId(net.0)) {
         Ok(()) => Ok(()),

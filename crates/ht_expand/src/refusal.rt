@@ -1,11 +1,11 @@
 //! Whether lines can be expanded.
-ghost use Rattle.std.specs.Prelude.{◌≡◌, ◌<◌, ◌↔◌, length, IsTrue, IfOk, IfErr, OnOk};
+ghost use Rattle.std.specs.Prelude.{◌≡◌, ◌<◌, ◌+◌, ◌↔◌, length, IsTrue, IfOk, IfErr, OnOk};
 ghost use Rattle.std.specs.List.{All, Contains};
 ghost use Rattle.ht_net.specs.Circuit.Netlist.{pin_count};
 ghost use Rattle.ht_slow.specs.Slow.{IsLine};
 ghost use Rattle.ht_statement.specs.Name.{max_name_bytes};
 ghost use Rattle.ht_slow.specs.LineNames.{before_name};
-ghost use Rattle.ht_expand.specs.Refusals.{mark, IsMarked, HasLongName, IsRefused, IsLeast, lesser_of, NamesFit, Refuses, Accepts};
+ghost use Rattle.ht_expand.specs.Refusals.{mark, IsMarked, HasLongName, IsRefusedNet, IsLeast, lesser_of, NamesFit, RefusesLines, CanExpand};
 
 use crate::ExpandError;
 use crate::line_names::{line_stump, owner};
@@ -66,6 +66,27 @@ fn is_long(alloc: Global, circuit: &Circuit, line: Site) -> Result<bool, AllocEr
     Ok(stump.len() >= MAX_NAME)
 }
 
+// The same of one line more, where this is the first net of the lines before it.
+fn with_line(
+    alloc: Global,
+    circuit: &Circuit,
+    lines: &[Site],
+    k: usize,
+    least: Option<u32>,
+) -> Result<Option<u32>, AllocError>
+    requires lines { All (IsLine circuit.now) lines.now }
+    requires within { k < length lines.now }
+    requires least { IsLeast (HasLongName circuit.now lines.now k) least }
+    ensures { IfOk result (IsLeast (HasLongName circuit.now lines.now (k + 1))) }
+{
+    let line = lines[k];
+    let long = is_long(alloc, circuit, line)?;
+    if long {
+        return Ok(lesser(least, Some(owner(circuit, line).0)));
+    }
+    Ok(least)
+}
+
 // The first net with whose name a name begins that is too long.
 fn first_long(
     alloc: Global,
@@ -76,10 +97,8 @@ fn first_long(
     ensures { IfOk result (IsLeast (HasLongName circuit.now lines.now (length lines.now))) }
 {
     let mut least = None;
-    for line in lines {
-        if is_long(alloc, circuit, *line)? {
-            least = lesser(least, Some(owner(circuit, *line).0));
-        }
+    for k in 0..lines.len() {
+        least = with_line(alloc, circuit, lines, k, least)?;
     }
     Ok(least)
 }
@@ -88,7 +107,7 @@ fn first_long(
 fn check_names(alloc: Global, circuit: &Circuit, lines: &[Site]) -> Result<(), ExpandError>
     requires { All (IsLine circuit.now) lines.now }
     ensures accepts { OnOk result (NamesFit circuit.now lines.now) }
-    ensures refusal { IfErr result (Refuses circuit.now lines.now) }
+    ensures refusal { IfErr result (RefusesLines circuit.now lines.now) }
 {
     let long = first_long(alloc, circuit, lines)?;
     match lesser(first_marked(circuit), long) {
@@ -114,8 +133,8 @@ fn pins(circuit: &Circuit) -> usize
 /// The one refusal, by the rules of `ExpandError`; `NoMemory` may come at any lines.
 pub(crate) fn check(alloc: Global, circuit: &Circuit, lines: &[Site]) -> Result<(), ExpandError>
     requires { All (IsLine circuit.now) lines.now }
-    ensures accepts { OnOk result (Accepts circuit.now lines.now) }
-    ensures refusal { IfErr result (Refuses circuit.now lines.now) }
+    ensures accepts { OnOk result (CanExpand circuit.now lines.now) }
+    ensures refusal { IfErr result (RefusesLines circuit.now lines.now) }
 {
     check_names(alloc, circuit, lines)?;
     let count = lines.len();

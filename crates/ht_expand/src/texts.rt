@@ -4,7 +4,7 @@ ghost use Rattle.ht_net.specs.Circuit.Netlist.{net_count};
 ghost use Rattle.ht_net.specs.declared.net.NetId.{NetId};
 ghost use Rattle.ht_texts.specs.Lines.{with_lf};
 ghost use Rattle.ht_expand.specs.declared.error.ExpandError.TheVariants.{Name};
-ghost use Rattle.ht_expand.specs.ExpandTexts.{counts_line, numbers_text, refusal_text};
+ghost use Rattle.ht_expand.specs.ExpandTexts.{counts_line, numbers_text, expand_refusal};
 
 use crate::ExpandError;
 use ht_net::Circuit;
@@ -68,7 +68,7 @@ pub fn write_refusal(
     error: ExpandError,
 ) -> Result<Vec<u8>, AllocError>
     requires { (x : NetId) → error ≡ Name x → x.0 < net_count circuit.now }
-    ensures { IfOk result (λ text. text.items ≡ refusal_text circuit.now error) }
+    ensures { IfOk result (λ text. text.items ≡ expand_refusal circuit.now error) }
 {
     match error {
         ExpandError::Name { net } => {
