@@ -1,4 +1,4 @@
-use Rattle.std.proofs.Common.{◌<◌, ◌∙◌, List, ap, length, subst, sym, arith}
+use Rattle.std.proofs.Common.{◌<◌, ◌∙◌, List, ap, length, get_or, subst, sym, arith}
 use Rattle.ht_net.specs.Build.Named.{Name}
 use Rattle.ht_net.specs.Build.Draft.{Draft}
 use Rattle.ht_expand.proofs.PartLaws.{gates_none, gate_step, gates_last, gate_known, gate_arity, gate_few}
@@ -10,7 +10,7 @@ loop-gate-init c = gates_none c.args.circuit.now c.args.line c.args.builder.now 
 pub add_gate-requires-clause-args : goal.add_gate-requires-clause-args
 add_gate-requires-clause-args c =
     let names = ap (λ (d : Draft). d.names) c.loop-gate.invariant.0 in
-    λ i d h. subst (λ (l : List Name). _ < length l) (sym names)
+    λ i d h. subst (λ (l : List Name). (get_or c.deref.result.now i d).0 < length l) (sym names)
     (gate_known c.args.circuit.now c.args.line c.args.builder.now.names c.loop-gate.gate c.deref.result.now
     c.requires.well (omega arith) (c.deref.ensures.value ∙ c.in_ok-args.ensures) i d h)
 
