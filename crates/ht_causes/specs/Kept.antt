@@ -46,6 +46,14 @@ with_carried vector value stuck kept = record kept {
   told = kept.told || is_told value;
 }
 
+-- what is kept once a later frame is known, but for what the fault's line carries in it
+abbrev pub with_later : Sightings → Sightings → Sightings
+with_later frame kept = record kept {
+  detected = option_or kept.detected frame.detected;
+  possible = option_or kept.possible frame.possible;
+  stored = option_or kept.stored frame.stored;
+}
+
 -- what a machine shows at output o in its last frame
 abbrev pub output_shown : MachineState Tern → ℕ → Tern
 output_shown m o = get_or m.outputs o Unk

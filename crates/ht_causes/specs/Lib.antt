@@ -2,4 +2,5 @@ pub mod Firsts
 pub mod Compared
 pub mod Causes
 pub mod Kept
+pub mod Tracks
 pub mod CauseTexts
