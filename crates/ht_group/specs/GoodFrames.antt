@@ -1,5 +1,6 @@
 -- A frame of the good machine, by the values of its nets.
-use Rattle.std.specs.Prelude.{◌≡◌, ◌<◌, ℕ, None, length, get_or, take, drop}
+use Rattle.std.specs.Prelude.{◌≡◌, ◌<◌, ℕ, List, None, length, get_or, take, drop}
+use Rattle.ht_tern.specs.declared.tern.Tern.{Tern}
 use Rattle.ht_tern.specs.declared.tern.Tern.TheVariants.{Unk}
 use Rattle.ht_net.specs.Circuit.Netlist.{Netlist, first_gate_net, net_count}
 use Rattle.ht_net.specs.Frames.Frame.{net_value}
@@ -17,3 +18,8 @@ pub record IsGoodFrame (c : Netlist) (frame : GoodFrame) : Type 0 where
   pub room : HasFrameRoom c frame
   pub values : (x : ℕ) → x < net_count c → get_or frame.values.items x Unk
       ≡ net_value c (tern_rules None) (take c.inputs frame.sources.items) (drop c.inputs frame.sources.items) x
+
+-- these are the values of all nets in the good machine's frame with a vector and latches
+pub record AreFrameValues (c : Netlist) (vector latches values : List Tern) : Type 0 where
+  pub count : length values ≡ net_count c
+  pub each : (x : ℕ) → x < net_count c → get_or values x Unk ≡ net_value c (tern_rules None) vector latches x

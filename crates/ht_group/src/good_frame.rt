@@ -2,7 +2,7 @@
 ghost use Rattle.std.specs.Prelude.{◌≡◌, ◌+◌, ◌++◌, None, length, IfOk};
 ghost use Rattle.ht_tern.specs.declared.tern.Tern.TheVariants.{Unk};
 ghost use Rattle.ht_net.specs.Detect.Detection.{terns_of};
-ghost use Rattle.ht_group.specs.GoodFrames.{HasFrameRoom, IsGoodFrame};
+ghost use Rattle.ht_group.specs.GoodFrames.{AreFrameValues, HasFrameRoom, IsGoodFrame};
 
 use ht_frame::{MAX_GATE_PINS, settle};
 use ht_net::Circuit;
@@ -77,5 +77,25 @@ impl GoodFrame {
     {
         join(vector, latches, &mut self.sources);
         self.run(circuit);
+    }
+    /// The same where the values of all nets in that frame are known, by the number of the net: no gate is evaluated.
+    pub fn start_at(
+        &mut self,
+        circuit: &Circuit,
+        vector: &[bool],
+        latches: &[Tern],
+        values: &[Tern],
+    )
+        requires width { length vector.now ≡ circuit.now.inputs }
+        requires each { length latches.now ≡ length circuit.now.dffs }
+        requires values { AreFrameValues circuit.now (terns_of vector.now) latches.now values.now }
+        requires room { HasFrameRoom circuit.now self.old }
+        ensures frame { IsGoodFrame circuit.now self.new }
+        ensures sources { self.new.sources.items ≡ terns_of vector.now ++ latches.now }
+    {
+        // for the proof: the contract alone names it
+        let _ = circuit;
+        join(vector, latches, &mut self.sources);
+        self.values.copy_from_slice(values);
     }
 }

@@ -10,7 +10,7 @@ ghost use Rattle.ht_group.specs.Differences.{with_differences};
 ghost use Rattle.ht_group.specs.GroupView.{AreInLanes, AreLatches, HasSite, faulty_next, faulty_output, good_next, good_output, max_machines, max_words, words_for};
 ghost use Rattle.ht_group.specs.MachineWords.{AreFirstChanged, HasWordRoom, IsBare, IsRestored};
 ghost use Rattle.ht_group.specs.declared.machines.Machines.{Machines};
-ghost use Rattle.ht_group.specs.GoodFrames.{HasFrameRoom};
+ghost use Rattle.ht_group.specs.GoodFrames.{AreFrameValues, HasFrameRoom};
 ghost use Rattle.ht_group.specs.NetValues.{IsNetAt, faulty_value, good_value};
 
 use crate::diffs::Diffs;
@@ -152,6 +152,28 @@ impl<'c> Group<'c> {
     {
         let circuit = self.frame.circuit;
         self.frame.good.start(circuit, vector, latches);
+        begin_words(circuit, &mut self.words);
+        self.count = 0;
+        self.frame.pending.clear();
+        self.settled = true;
+    }
+
+    /// The same where the values of all nets in that frame are known, by the number of the net: no gate is evaluated.
+    pub fn start_at(&mut self, vector: &[bool], latches: &[Tern], values: &[Tern])
+        requires width { length vector.now ≡ self.old.circuit.inputs }
+        requires each { length latches.now ≡ length self.old.circuit.dffs }
+        requires values { AreFrameValues self.old.circuit (terns_of vector.now) latches.now
+            values.now }
+        ensures { self.new ≡ record {
+          circuit = self.old.circuit;
+          vector = terns_of vector.now;
+          latches = latches.now;
+          machines = [];
+          settled = true;
+        } }
+    {
+        let circuit = self.frame.circuit;
+        self.frame.good.start_at(circuit, vector, latches, values);
         begin_words(circuit, &mut self.words);
         self.count = 0;
         self.frame.pending.clear();

@@ -33,7 +33,7 @@ outputs_more c r latches (w ∷ vectors) v =
 
 -- ---- runs of lists of bits, from a start
 
-latches_more : (c : Netlist) (f : Option Fault) (start : List Tern) (list : List (List Bool)) (v : List Bool)
+pub latches_more : (c : Netlist) (f : Option Fault) (start : List Tern) (list : List (List Bool)) (v : List Bool)
     → state_from c f start (list ++ v ∷ [])
     ≡ next_state c (tern_rules f) (terns_of v) (state_from c f start list)
 latches_more c f start list v =
@@ -162,7 +162,7 @@ seen_inside frame m o h =
     omega (arith, inside, frame_width frame.circuit r frame.vector m.latches)
 
 -- Where no vector before detects the fault, the last one decides.
-first_new : (frame : GroupView) (m : FaultyMachine) (start : List Tern) (list : List (List Bool)) (v : List Bool)
+pub first_new : (frame : GroupView) (m : FaultyMachine) (start : List Tern) (list : List (List Bool)) (v : List Bool)
     (number : ℕ)
     (verdict : Option Place) → IsLast frame m start list v → number ≡ length list
     → IsFirstFrom frame.circuit m.fault start list None

@@ -6,10 +6,12 @@ ghost use Rattle.ht_net.specs.Circuit.Netlist.{net_count};
 ghost use Rattle.ht_stems.specs.Arrivals.{HasLine};
 ghost use Rattle.ht_stems.specs.ArrivedFrames.{AreGoodValues};
 ghost use Rattle.ht_stems.specs.ArrivalsView.{good_of_net};
+ghost use Rattle.ht_net.specs.Detect.Detection.{terns_of};
+ghost use Rattle.ht_group.specs.GoodFrames.{AreFrameValues};
 ghost use Rattle.ht_group.specs.GroupView.{AreLatches, max_machines, words_for};
 ghost use Rattle.ht_proofs.specs.Applied.{good_state};
 ghost use Rattle.ht_proofs.specs.LaneGrades.{grade_at, holds_good};
-ghost use Rattle.ht_proofs.specs.Batches.{AddsAtMost, AreLanesBelow, ArePassedAll, FrameStart, HasBegunFrame, IsGradedFrame, undetected_count};
+ghost use Rattle.ht_proofs.specs.Batches.{AddsAtMost, AreLanesBelow, ArePassedAll, FrameStart, HasBegunAt, HasBegunFrame, IsGradedFrame, undetected_count};
 ghost use Rattle.ht_proofs.specs.Followers.{AreSharing, FrameStandsFor, firsts_if, following, no_firsts};
 ghost use Rattle.ht_proofs.specs.Undetected.{undetected_of, verdicts_of};
 
@@ -181,6 +183,25 @@ impl<'c> FrameGrader<'c> {
             steps.new.count }
     {
         self.batch.start(vector, latches, steps);
+    }
+
+    /// The same where the values of all nets in the good machine's frame are known: no gate is evaluated.
+    pub fn start_at(&mut self, vector: &[bool], latches: &[Tern], values: &[Tern])
+        requires width { length vector.now ≡ self.old.group.circuit.inputs }
+        requires each { length latches.now ≡ length self.old.group.circuit.dffs }
+        requires values { AreFrameValues self.old.group.circuit (terns_of vector.now) latches.now
+            values.now }
+        ensures { HasBegunAt self.old vector.now latches.now self.new }
+    {
+        self.batch.start_at(vector, latches, values);
+    }
+
+    /// The values of all nets in the good machine's frame, by the number of the net.
+    pub fn good_values(&self) -> &[Tern]
+        ensures { AreFrameValues self.now.group.circuit self.now.group.vector
+            self.now.group.latches result.now }
+    {
+        self.batch.good_values()
     }
 
     /// How many flip-flops there are.

@@ -27,6 +27,8 @@ mod theorems;
 
 pub use class_grader::ClassGrader;
 pub use detections::{first_detections, first_detections_from};
+pub use frame_grader::FrameGrader;
+pub use grade::Grade;
 pub use grader::{Grader, MAX_VECTORS};
 pub use steps::Steps;
 pub use theorems::{applied_vector_is_added, verdicts_are_within};
