@@ -1,126 +1,167 @@
--- What a trial knows of the wanted faults, stage by stage.
-use Rattle.std.proofs.Common.{◌≡◌, ◌<◌, ◌≤◌, ◌+◌, inl, inr, ℕ, List, Bool, true, false, length, get_or, set, refl, sym, ◌∙◌, ap, subst, arith}
-use Rattle.std.specs.List.{All, Contains}
-use Rattle.std.proofs.lemmas.Bool.{cases_eq}
-use Rattle.std.proofs.lemmas.List.Elements.{All-from_get_or}
-use Rattle.std.proofs.lemmas.List.{get_or-set_same, get_or-set_other, get_or_past, length-set}
+-- What a trial knows of the wanted faults, vector by vector.
+use Rattle.std.proofs.Common.{◌≡◌, ◌<◌, ◌≤◌, ◌+◌, ◌++◌, ◌∷◌, [], inl, inr, ℕ, List, Bool, Option, Some, None, length, get_or, map, take, refl, sym, ◌∙◌, ap, subst, arith, length-append}
+use Rattle.std.specs.List.{All, Contains, slice_get}
+use Rattle.std.specs.Option.{option_map}
+use Rattle.std.proofs.lemmas.List.{take_more, take-take, length-take, length-take-le}
+use Rattle.std.proofs.lemmas.Option.{slice_get-map, slice_get-get_or}
+use Rattle.ht_tern.specs.declared.tern.Tern.{Tern}
+use Rattle.ht_net.specs.declared.fault.Fault.{Fault}
+use Rattle.ht_net.specs.declared.place.Place.{Place}
 use Rattle.ht_net.specs.Circuit.Netlist.{Netlist}
+use Rattle.ht_net.specs.Frames.Frame.{next_state}
+use Rattle.ht_net.specs.Frames.Faults.{tern_rules}
+use Rattle.ht_net.specs.Detect.Detection.{Detects, IsFirstFrom, state_from, terns_of, unknown_state}
 use Rattle.ht_net.proofs.FrameLaws.{le_or_lt}
-use Rattle.ht_compact.specs.declared.detected.DetectedFault.{DetectedFault}
-use Rattle.ht_compact.specs.declared.trial.Places.{Places}
-use Rattle.ht_compact.specs.Kept.{without_run}
-use Rattle.ht_compact.specs.Compacts.{IsDetectedBy}
-use Rattle.ht_compact.specs.DetectedFaults.{AreDetectedAt, IsDetectedFault, IsMissed}
-use Rattle.ht_compact.specs.Trials.{AreClosed, AreDetectedIfClosed, is_still_open}
-use Rattle.ht_compact.proofs.FrontLaws.{detected_before_run}
+use Rattle.ht_faults.specs.Sites.{faults_of}
+use Rattle.ht_faults.specs.Classes.{fault_at}
+use Rattle.ht_group.specs.declared.diffs.Diff.{Diff}
+use Rattle.ht_group.specs.Differences.{with_differences}
+use Rattle.ht_group.specs.GroupView.{FaultyMachine, GroupView}
+use Rattle.ht_proofs.specs.declared.grade.Grade.{Grade}
+use Rattle.ht_proofs.specs.Applied.{IsFirstSeen, faulty_state, good_state}
+use Rattle.ht_proofs.specs.Batches.{IsGradedFrame, machine_from}
+use Rattle.ht_proofs.specs.LaneGrades.{IsGradedFault, grade_at}
+use Rattle.ht_proofs.specs.PackedView.{chosen_faults}
+use Rattle.ht_proofs.proofs.VectorLaws.{IsLast, first_new, found_inside, latches_more, option_cases}
+use Rattle.ht_compact.specs.declared.moment.FaultyLatches.{FaultyLatches}
+use Rattle.ht_compact.specs.declared.moment.Moment.{Moment}
+use Rattle.ht_compact.specs.DetectedFaults.{IsDetectedFault, IsMissed}
+use Rattle.ht_compact.specs.Moments.{HoldsMachine, IsKeptMachine, IsMoment, IsUndetectedBefore, places_of, state_before, wanted_fault}
+use Rattle.ht_compact.specs.Trials.{AreVerdicts, IsOpenUntil}
+use Rattle.ht_compact.proofs.FrontLaws.{detects_in_front, same_in_front}
 
--- before the first stage: what is detected before the run that is left out stays detected
-pub first_places : (c : Netlist) (wanted : List ℕ) (list other : List (List Bool)) (at : List ℕ) (from to : ℕ)
-    (places : Places) → from ≤ length list → AreDetectedAt c list wanted at → other ≡ without_run list from to
-    → places.at.items ≡ at → length places.marks.items ≡ length at
-    → ((k : ℕ) → k < length at → is_still_open places k ≡ false → get_or at k 0 < from)
-    → AreDetectedIfClosed c wanted other places
-first_places c wanted list other at from to places inside are is same count closed = record {
-  vectors = ap (λ (l : List ℕ). length l) same ∙ are.every;
-  marks = count ∙ are.every;
-  closed = λ k less mark.
-      let one : DetectedFault = record { fault = get_or wanted k 0; vector = get_or at k 0 } in
-      let before = detected_before_run c list from to one inside (closed k (omega (arith, less, are.every)) mark)
-      (are.each k less) in
-      subst (λ (l : List ℕ). IsDetectedFault c other (record { fault = get_or wanted k 0; vector = get_or l k 0 }))
-      (sym same) (subst (λ (l : List (List Bool)). IsDetectedFault c l one) (sym is) before);
-}
+-- ---- one vector more
 
--- one fault is closed
-pub one_closed : (c : Netlist) (wanted : List ℕ) (list : List (List Bool)) (k v : ℕ) (old new : Places)
-    → AreDetectedIfClosed c wanted list old → k < length wanted
-    → IsDetectedFault c list (record { fault = get_or wanted k 0; vector = v })
-    → new.at.items ≡ set old.at.items k v → new.marks.items ≡ set old.marks.items k false
-    → AreDetectedIfClosed c wanted list new
-one_closed c wanted list k v old new so_far inside here at_is open_is =
-    let At : ℕ → ℕ → Type 0 = λ j w. IsDetectedFault c list (record { fault = get_or wanted j 0; vector = w }) in
-    let at = old.at.items in
-    let marks = old.marks.items in
+-- the first vectors, one more of them
+front_more : (list : List (List Bool)) (s : ℕ) → s < length list
+    → take (s + 1) list ≡ take s list ++ get_or list s [] ∷ []
+front_more list s inside = take_more list s [] inside
+
+-- what a machine's latches hold after the vector
+pub state_more : (c : Netlist) (fault : Option Fault) (list : List (List Bool)) (s : ℕ) → s < length list
+    → state_before c fault list (s + 1)
+    ≡ next_state c (tern_rules fault) (terns_of (get_or list s [])) (state_before c fault list s)
+state_more c fault list s inside =
+    ap (λ (l : List (List Bool)). state_from c fault (unknown_state c) l) (front_more list s inside)
+    ∙ latches_more c fault (unknown_state c) (take s list) (get_or list s [])
+
+-- a fault that no vector before detects is detected by none of the first vectors
+none_in_front : (c : Netlist) (fault : Fault) (list : List (List Bool)) (s : ℕ) → IsUndetectedBefore c fault list s
+    → IsFirstFrom c fault (unknown_state c) (take s list) None
+none_in_front c fault list s none t o is =
+    let inside = found_inside c fault (unknown_state c) (take s list) t o is in
+    none t o (omega (arith, inside, length-take s list)) (detects_in_front c fault list s t o is)
+
+-- and the other way round
+none_before : (c : Netlist) (fault : Fault) (list : List (List Bool)) (s : ℕ)
+    → IsFirstFrom c fault (unknown_state c) (take s list) None → IsUndetectedBefore c fault list s
+none_before c fault list s none t o less is =
+    none t o (same_in_front c fault list (take s list) s t o (sym (take-take s s list (omega arith))) less is)
+
+-- The frame of vector s of the list, with the latches of the good machine and of a fault's.
+pub record IsFrameOf (c : Netlist) (fault : Fault) (list : List (List Bool)) (s : ℕ) (frame : GroupView)
+    (grade : Grade) : Type 0 where
+  pub circuit : frame.circuit ≡ c
+  pub vector : frame.vector ≡ terns_of (get_or list s [])
+  pub good : frame.latches ≡ state_before c None list s
+  pub holds : HoldsMachine c fault list s frame.latches grade.diffs
+
+-- the first detection by the first vectors, one more of them
+first_by : (c : Netlist) (fault : Fault) (list : List (List Bool)) (s : ℕ) (frame : GroupView) (old new : Grade)
+    → s < length list → IsFrameOf c fault list s frame old
+    → IsGradedFault frame (machine_from frame fault old) s new
+    → IsFirstFrom c fault (unknown_state c) (take (s + 1) list) new.verdict
+first_by c fault list s frame old new inside is graded =
+    let front = take s list in
+    let start = unknown_state c in
+    let v = get_or list s [] in
+    let m = machine_from frame fault old in
+    let last : IsLast frame m start front v = record {
+      vector = is.vector;
+      good = is.good ∙ ap (λ (n : Netlist). state_from n None start front) (sym is.circuit);
+      faulty = is.holds.state ∙ ap (λ (n : Netlist). state_from n (Some fault) start front) (sym is.circuit);
+    } in
+    let none = subst (λ (n : Netlist). IsFirstFrom n fault start front None) (sym is.circuit)
+    (none_in_front c fault list s is.holds.undetected) in
+    let count : s ≡ length front = sym (length-take-le s list (omega (arith, inside))) in
+    subst (λ (l : List (List Bool)). IsFirstFrom c fault start l new.verdict) (sym (front_more list s inside))
+    (subst (λ (n : Netlist). IsFirstFrom n fault start (front ++ v ∷ []) new.verdict) is.circuit
+    (first_new frame m start front v s new.verdict last count none graded.seen))
+
+-- a fault that stays undetected
+pub still_holds : (c : Netlist) (fault : Fault) (list : List (List Bool)) (s : ℕ) (frame : GroupView)
+    (old new : Grade) → s < length list → IsFrameOf c fault list s frame old
+    → IsGradedFault frame (machine_from frame fault old) s new → new.verdict ≡ None
+    → HoldsMachine c fault list (s + 1) (good_state frame) new.diffs
+still_holds c fault list s frame old new inside is graded none =
+    let v = terns_of (get_or list s []) in
+    let r = tern_rules (Some fault) in
     record {
-      vectors = ap (λ (l : List ℕ). length l) at_is ∙ (length-set at k v ∙ so_far.vectors);
-      marks = ap (λ (l : List Bool). length l) open_is ∙ (length-set marks k false ∙ so_far.marks);
-      closed = λ j less mark. elim (cases_eq j k) [
-        | inl same ↦
-            subst (λ (i : ℕ). At i (get_or new.at.items i 0)) (sym same)
-            (subst (At k) (sym (ap (λ (l : List ℕ). get_or l k 0) at_is
-            ∙ get_or-set_same at k v 0 (omega (arith, inside, so_far.vectors)))) here)
-        | inr other ↦
-            let stays : is_still_open new j ≡ is_still_open old j =
-            ap (λ (l : List Bool). get_or l j false) open_is ∙ get_or-set_other marks k j false false other in
-            subst (At j) (sym (ap (λ (l : List ℕ). get_or l j 0) at_is ∙ get_or-set_other at k j v 0 other))
-            (so_far.closed j less (sym stays ∙ mark))
-      ];
+      state = graded.state none
+          ∙ (ap (λ (n : Netlist). next_state n r frame.vector (with_differences frame.latches old.diffs)) is.circuit
+          ∙ (ap (λ (w : List Tern). next_state c r w (with_differences frame.latches old.diffs)) is.vector
+          ∙ (ap (next_state c r v) is.holds.state ∙ sym (state_more c (Some fault) list s inside))));
+      undetected = none_before c fault list (s + 1)
+          (subst (IsFirstFrom c fault (unknown_state c) (take (s + 1) list)) none
+          (first_by c fault list s frame old new inside is graded));
     }
 
--- it isn't open any more
-pub closed_now : (marks after : List Bool) (k : ℕ) → after ≡ set marks k false → get_or after k false ≡ false
-closed_now marks after k is =
-    elim (le_or_lt (length marks) k) [
-      | inl past ↦
-          get_or_past after k false
-          (omega (arith, past, ap (λ (l : List Bool). length l) is, length-set marks k false))
-      | inr inside ↦
-          ap (λ (l : List Bool). get_or l k false) is ∙ get_or-set_same marks k false false inside
-    ]
+-- a fault that the vector detects
+pub found_here : (c : Netlist) (fault : Fault) (list : List (List Bool)) (s : ℕ) (frame : GroupView)
+    (old new : Grade) (p : Place) → s < length list → IsFrameOf c fault list s frame old
+    → IsGradedFault frame (machine_from frame fault old) s new → new.verdict ≡ Some p
+    → (p.vector < s + 1) × Detects c fault list p.vector p.output
+found_here c fault list s frame old new p inside is graded found =
+    let first = subst (IsFirstFrom c fault (unknown_state c) (take (s + 1) list)) found
+    (first_by c fault list s frame old new inside is graded) in
+    let within = found_inside c fault (unknown_state c) (take (s + 1) list) p.vector p.output first.0 in (
+      omega (arith, within, length-take (s + 1) list),
+      detects_in_front c fault list (s + 1) p.vector p.output first.0,
+    )
 
--- and none is opened
-pub none_opened : (marks after : List Bool) (k j : ℕ) → after ≡ set marks k false → get_or marks j false ≡ false
-    → get_or after j false ≡ false
-none_opened marks after k j is closed = elim (cases_eq j k) [
-  | inl same ↦ ap (λ (i : ℕ). get_or after i false) same ∙ closed_now marks after k is
-  | inr other ↦
-      ap (λ (l : List Bool). get_or l j false) is ∙ (get_or-set_other marks k j false false other ∙ closed)
+-- ---- all wanted faults
+
+-- the k-th of the chosen faults
+pub chosen_at : (c : Netlist) (wanted : List ℕ) (faults : List Fault) (k : ℕ)
+    → faults ≡ chosen_faults (faults_of c) wanted → k < length wanted
+    → slice_get faults k ≡ Some (wanted_fault c wanted k)
+chosen_at c wanted faults k is inside =
+    ap (λ (l : List Fault). slice_get l k) is
+    ∙ (slice_get-map (fault_at c) wanted k ∙ ap (option_map (fault_at c)) (slice_get-get_or wanted k 0 inside))
+
+-- a fault that has no verdict after a frame had none before it
+pub had_none : (frame : GroupView) (faults : List Fault) (s k : ℕ) (old new : List Grade)
+    → IsGradedFrame frame faults s old new → (grade_at new k).verdict ≡ None → (grade_at old k).verdict ≡ None
+had_none frame faults s k old new graded none = elim (option_cases (grade_at old k).verdict) [
+  | inl was ↦ was
+  | inr p ↦
+      let bad : None ≡ Some p.0 = sym none ∙ (ap (λ (g : Grade). g.verdict) (graded.kept k p.0 p.1) ∙ p.1) in
+      cc
 ]
 
--- after the last stage no fault is open
-pub all_closed : (c : Netlist) (wanted : List ℕ) (list : List (List Bool)) (which : List ℕ) (old new : Places)
-    → AreDetectedIfClosed c wanted list new → AreClosed which old new
-    → ((k : ℕ) → is_still_open old k ≡ true → Contains which k) → AreDetectedAt c list wanted new.at.items
-all_closed c wanted list which old new so_far closed named = record {
-  every = so_far.vectors;
-  each = λ k less.
-      let cases : (b : Bool) → is_still_open old k ≡ b → is_still_open new k ≡ false =
-      λ b. elim b as (λ (v : Bool). is_still_open old k ≡ v → is_still_open new k ≡ false) [
-        | true ↦ λ is. closed.named k (named k is)
-        | false ↦ λ is. closed.kept k is
-      ] in
-      so_far.closed k less (cases (is_still_open old k) refl);
-}
+-- the verdicts after a frame
+pub verdicts_more : (c : Netlist) (wanted : List ℕ) (faults : List Fault) (list : List (List Bool)) (s : ℕ)
+    (frame : GroupView) (old new : List Grade) → s < length list → faults ≡ chosen_faults (faults_of c) wanted
+    → IsGradedFrame frame faults s old new
+    → ((k : ℕ) → k < length wanted → (grade_at old k).verdict ≡ None
+    → IsFrameOf c (wanted_fault c wanted k) list s frame (grade_at old k))
+    → AreVerdicts c wanted list s old → AreVerdicts c wanted list (s + 1) new
+verdicts_more c wanted faults list s frame old new inside is graded frames so_far k p less found =
+    elim (option_cases (grade_at old k).verdict) [
+      | inl none ↦
+          let here = found_here c (wanted_fault c wanted k) list s frame (grade_at old k) (grade_at new k) p inside
+          (frames k less none)
+          (graded.graded k (wanted_fault c wanted k) (chosen_at c wanted faults k is less) none) found in
+          (here.0, record { output = p.output; detects = here.1 })
+      | inr q ↦
+          let was : (grade_at old k).verdict ≡ Some p =
+          ap (λ (g : Grade). g.verdict) (sym (graded.kept k q.0 q.1)) ∙ found in
+          let before = so_far k p less was in
+          (omega (arith, before.0), before.1)
+    ]
 
--- ---- the faults of a stage, by their numbers
-
--- they are faults of the circuit
-pub chosen_known : (n : ℕ) (wanted which chosen : List ℕ) → All (λ i. i < n) wanted
-    → All (λ k. k < length wanted) which → length chosen ≡ length which
-    → ((i : ℕ) → i < length which → get_or chosen i 0 ≡ get_or wanted (get_or which i 0) 0) → All (λ i. i < n) chosen
-chosen_known n wanted which chosen known inside count each =
-    All-from_get_or (λ i. i < n) chosen 0 (λ i less.
-    let here : i < length which = omega (arith, less, count) in
-    subst (λ (j : ℕ). j < n) (sym (each i here)) (known (get_or which i 0) 0 (inside i 0 here)))
-
--- one that is missed is a wanted one
-pub chosen_missed : (c : Netlist) (wanted which chosen : List ℕ) (list : List (List Bool)) (i : ℕ)
-    → All (λ k. k < length wanted) which → length chosen ≡ length which
-    → ((i : ℕ) → i < length which → get_or chosen i 0 ≡ get_or wanted (get_or which i 0) 0)
-    → IsMissed c chosen list i → IsMissed c wanted list (get_or which i 0)
-chosen_missed c wanted which chosen list i inside count each is =
-    let here : i < length which = omega (arith, is.inside, count) in
-    record {
-      inside = inside i 0 here;
-      undetected = subst (λ (j : ℕ). ¬ IsDetectedBy c list j) (each i here) is.undetected;
-    }
-
--- those that are found are wanted ones
-pub chosen_found : (c : Netlist) (wanted which chosen found : List ℕ) (list : List (List Bool))
-    → length chosen ≡ length which
-    → ((i : ℕ) → i < length which → get_or chosen i 0 ≡ get_or wanted (get_or which i 0) 0)
-    → AreDetectedAt c list chosen found → (i : ℕ) → i < length which
-    → IsDetectedFault c list (record { fault = get_or wanted (get_or which i 0) 0; vector = get_or found i 0 })
-chosen_found c wanted which chosen found list count each are i less =
-    subst (λ (j : ℕ). IsDetectedFault c list (record { fault = j; vector = get_or found i 0 })) (each i less)
-    (are.each i (omega (arith, less, count)))
+-- a fault that is open until a vector after a frame was so before it
+pub open_before : (frame : GroupView) (faults : List Fault) (s : ℕ) (old new : List Grade)
+    → IsGradedFrame frame faults s old new → (k t : ℕ) → IsOpenUntil new k t → IsOpenUntil old k t
+open_before frame faults s old new graded k t is p found =
+    is p (ap (λ (g : Grade). g.verdict) (graded.kept k p found) ∙ found)

@@ -1,59 +1,62 @@
-//! A trial: whether a list without a run of vectors detects each wanted fault.
-ghost use Rattle.std.specs.Prelude.{◌≡◌, ◌≤◌, ◌<◌, ◌^◌, ℕ, true, false, length, slice_index, IfOk, MatchOption};
-ghost use Rattle.std.specs.List.{All, Contains};
+//! A trial: whether a list without a run of vectors detects each wanted fault. It begins where the lists differ.
+ghost use Rattle.std.specs.Prelude.{◌≡◌, ◌≤◌, ◌<◌, ◌+◌, ◌^◌, ℕ, None, true, length, map, slice_index, is_some, IfOk, OnOk, MatchOption};
+ghost use Rattle.std.specs.List.{All};
+ghost use Rattle.std.specs.Option.{ForSome};
 ghost use Rattle.ht_faults.specs.Sites.{faults_of};
+ghost use Rattle.ht_proofs.specs.LaneGrades.{grade_at};
+ghost use Rattle.ht_proofs.specs.PackedView.{chosen_faults};
 ghost use Rattle.ht_compact.specs.Kept.{without_run};
-ghost use Rattle.ht_compact.specs.DetectedFaults.{IsDetectedFault, IsMissed, RunGives};
-ghost use Rattle.ht_compact.specs.GradedLists.{AreGradedVectors};
-ghost use Rattle.ht_compact.specs.Trials.{AreClosed, AreDetectedIfClosed, is_marked, is_still_open};
+ghost use Rattle.ht_compact.specs.DetectedFaults.{IsMissed};
+ghost use Rattle.ht_compact.specs.GradedLists.{AreGradedVectors, RerunGives, TrialGives};
+ghost use Rattle.ht_compact.specs.Trials.{AreBefore, AreFramesOf, AreVerdicts, is_marked, vector_of};
 
-use crate::detected::{Run, detections};
 use crate::graded::GradedVectors;
+use crate::machines::Machines;
+use crate::moment::Moment;
 use crate::recent::Recent;
-use ht_faults::FaultList;
-use ht_net::{Circuit, Vectors};
+use ht_net::{Circuit, Fault, Vectors};
+use ht_proofs::{FrameGrader, Grade};
 use std::alloc::{AllocError, Global};
 
 // How many faults are tried before all others: those of one group.
 const MAX_HARD: usize = 64;
 
-// For each wanted fault a vector of the shorter list that detects it, unless the fault is open.
+/// What a list gives that is a graded one without a run of vectors.
 #[derive(Drop)]
-struct Places {
-    at: Vec<u64>,
-    marks: Vec<bool>,
+pub enum Rerun {
+    /// For each wanted fault a vector that detects it, and the moments from the place on where the lists differ.
+    Found { at: Vec<u64>, moments: Vec<Moment> },
+    /// The fault at this place among the wanted ones is lost.
+    Misses(usize),
 }
 
-// Which faults a list detects without the vectors from `from` on before another, as far as is known before any runs:
-// what vectors before `from` detect stays detected, and the others are open.
-fn places_at_first(alloc: Global, at: &[u64], from: u64) -> Result<Places, AllocError>
-    ensures at { IfOk result (λ places. places.at.items ≡ at.now) }
-    ensures count { IfOk result (λ places. length places.marks.items ≡ length at.now) }
-    ensures closed { IfOk result (λ places. (k : ℕ) → k < length at.now
-        → is_still_open places k ≡ false → slice_index at.now k < from) }
+// The marks of the faults that may be lost: what vectors before `from` detect stays detected.
+fn marks_from(alloc: Global, at: &[u64], from: u64) -> Result<Vec<bool>, AllocError>
+    ensures count { IfOk result (λ marks. length marks.items ≡ length at.now) }
+    ensures each { IfOk result (λ marks. (k : ℕ) → k < length at.now → from ≤ slice_index at.now k
+        → is_marked marks.items k ≡ true) }
+    ensures alone { IfOk result (λ marks. (k : ℕ) → k < length at.now
+        → is_marked marks.items k ≡ true → from ≤ slice_index at.now k) }
 {
     let mut marks = Vec::new(alloc);
     for vector in at {
         marks.push(*vector >= from)?;
     }
-    let at = Vec::from_slice(alloc, at)?;
-    Ok(Places { at, marks })
+    Ok(marks)
 }
 
-// The open faults, by their places among the wanted ones.
-fn open_faults(alloc: Global, marks: &[bool]) -> Result<Vec<usize>, AllocError>
-    ensures known { IfOk result (λ which. All (λ k. k < length marks.now) which.items) }
-    ensures few { IfOk result (λ which. length which.items ≤ length marks.now) }
-    ensures each { IfOk result (λ which. (k : ℕ) → is_marked marks.now k ≡ true
-        → Contains which.items k) }
+// The marks of these faults.
+fn marks_of(alloc: Global, count: usize, which: &[usize]) -> Result<Vec<bool>, AllocError>
+    ensures { IfOk result (λ marks. length marks.items ≡ count) }
 {
-    let mut which = Vec::new(alloc);
-    for (k, mark) in marks.iter().enumerate() {
-        if *mark {
-            which.push(k)?;
+    let mut marks = Vec::new(alloc);
+    marks.resize(count, false)?;
+    for k in which {
+        if *k < marks.len() {
+            marks[*k] = true;
         }
     }
-    Ok(which)
+    Ok(marks)
 }
 
 // Adds fault `k` to those that are tried first, if it is open, isn't among them and there is room.
@@ -111,116 +114,162 @@ fn hard_faults(
     Ok(hard)
 }
 
-// The numbers of the wanted faults at these places.
-fn faults_at(alloc: Global, wanted: &[u32], which: &[usize]) -> Result<Vec<u32>, AllocError>
-    requires { All (λ k. k < length wanted.now) which.now }
-    ensures count { IfOk result (λ faults. length faults.items ≡ length which.now) }
-    ensures each { IfOk result (λ faults. (i : ℕ) → i < length which.now
-        → slice_index faults.items i ≡ slice_index wanted.now (slice_index which.now i)) }
+// A fault without a verdict, if there is one.
+fn first_lost(grades: &[Grade]) -> Option<usize>
+    ensures { MatchOption result
+        ((k : ℕ) → k < length grades.now → is_some (grade_at grades.now k).verdict ≡ true)
+        (λ k. (k < length grades.now) × ((grade_at grades.now k).verdict ≡ None)) }
 {
-    let mut faults = Vec::new(alloc);
-    for k in which {
-        faults.push(wanted[*k])?;
-    }
-    Ok(faults)
-}
-
-// Notes where the list detects these faults, which are closed then.
-fn close(
-    circuit: &Circuit,
-    list: &Vectors,
-    wanted: &[u32],
-    which: &[usize],
-    found: &[u64],
-    places: &mut Places,
-)
-    requires found { length found.now ≡ length which.now }
-    requires detected { (i : ℕ) → i < length which.now → IsDetectedFault circuit.now list.now.list
-        (record {
-          fault = slice_index wanted.now (slice_index which.now i);
-          vector = slice_index found.now i;
-        }) }
-    requires known { All (λ k. k < length wanted.now) which.now }
-    requires places { AreDetectedIfClosed circuit.now wanted.now list.now.list places.old }
-    ensures places { AreDetectedIfClosed circuit.now wanted.now list.now.list places.new }
-    ensures closed { AreClosed which.now places.old places.new }
-{
-    // for the proof: the contract alone names these
-    let _ = circuit;
-    let _ = list;
-    let _ = wanted;
-    for (i, k) in which.iter().enumerate() {
-        places.at[*k] = found[i];
-        places.marks[*k] = false;
-    }
-}
-
-// Runs the shorter list over some of the wanted faults, and notes where it detects them; or says which one it misses.
-fn try_faults(
-    alloc: Global,
-    circuit: &Circuit,
-    faults: &FaultList,
-    list: &Vectors,
-    wanted: &[u32],
-    which: &[usize],
-    places: &mut Places,
-) -> Result<Option<usize>, AllocError>
-    requires faults { faults.now ≡ faults_of circuit.now }
-    requires width { list.now.width ≡ circuit.now.inputs }
-    requires wanted { All (λ i. i < length (faults_of circuit.now)) wanted.now }
-    requires known { All (λ k. k < length wanted.now) which.now }
-    requires few { length which.now < 2 ^ 32 }
-    requires places { AreDetectedIfClosed circuit.now wanted.now list.now.list places.old }
-    ensures { IfOk result (λ lost. MatchOption lost
-        (AreDetectedIfClosed circuit.now wanted.now list.now.list places.new
-        × AreClosed which.now places.old places.new)
-        (IsMissed circuit.now wanted.now list.now.list)) }
-{
-    let chosen = faults_at(alloc, wanted, which)?;
-    match detections(alloc, circuit, faults, &chosen, list)? {
-        Run::Misses(i) => Ok(Some(which[i])),
-        Run::Found(found) => {
-            close(circuit, list, wanted, which, &found, places);
-            Ok(None)
+    for k in 0..grades.len() {
+        if grades[k].verdict.is_none() {
+            return Some(k);
         }
     }
+    None
 }
 
-/// What a list gives that is a graded one without the vectors from `from` on before `to`: a vector that detects each
-/// wanted fault, or a fault that is lost. What is detected before vector `from` stays detected where it is, so only the
-/// other faults run: first those among which one is likely to be lost, so that a trial that loses it ends there.
+// The vector of each verdict, and 0 where there is none.
+fn vectors_of(alloc: Global, grades: &[Grade]) -> Result<Vec<u64>, AllocError>
+    ensures { IfOk result (λ at. at.items ≡ map vector_of grades.now) }
+{
+    let mut at = Vec::with_capacity(alloc, grades.len())?;
+    for grade in grades {
+        at.push(match grade.verdict {
+            Some(place) => place.vector,
+            None => 0,
+        })?;
+    }
+    Ok(at)
+}
+
+/// What the machines of all wanted faults find from vector `from` of a list on.
 ///
 /// # Errors
 ///
 /// `AllocError`: out of memory.
-pub fn detections_without(
+pub fn finish(
     alloc: Global,
     circuit: &Circuit,
-    faults: &FaultList,
+    frame: &mut FrameGrader,
+    faults: &[Fault],
+    wanted: &[u32],
+    list: &Vectors,
+    moments: &[Moment],
+    from: u64,
+    later: u64,
+    machines: &mut Machines,
+) -> Result<Rerun, AllocError>
+    requires circuit { frame.old.group.circuit ≡ circuit.now }
+    requires faults { faults.now ≡ chosen_faults (faults_of circuit.now) wanted.now }
+    requires width { list.now.width ≡ circuit.now.inputs }
+    requires inside { from ≤ length list.now.list }
+    requires fits { length list.now.list + later < 2 ^ 64 }
+    requires known { AreFramesOf circuit.now list.now.list from later moments.now }
+    requires before { AreBefore circuit.now wanted.now list.now.list from machines.old }
+    requires verdicts { AreVerdicts circuit.now wanted.now list.now.list from
+        machines.old.grades.items }
+    ensures circuit { OnOk result (frame.new.group.circuit ≡ circuit.now) }
+    ensures gives { IfOk result (RerunGives circuit.now wanted.now machines.old.grades.items
+        list.now.list from) }
+{
+    let recorded = machines.run_recorded(
+        alloc, circuit, frame, faults, wanted, list, moments, from, later,
+    )?;
+    if let Some(k) = first_lost(&machines.grades) {
+        return Ok(Rerun::Misses(k));
+    }
+    let at = vectors_of(alloc, &machines.grades)?;
+    Ok(Rerun::Found {
+        at,
+        moments: recorded,
+    })
+}
+
+// Runs the shorter list over hard faults alone, from the place where the lists differ, and gives one that is lost.
+fn lost_among(
+    alloc: Global,
+    circuit: &Circuit,
+    frame: &mut FrameGrader,
+    graded: &GradedVectors,
+    hard: &[usize],
+    from: u64,
+    to: u64,
+    list: &Vectors,
+) -> Result<Option<usize>, AllocError>
+    requires circuit { frame.old.group.circuit ≡ circuit.now }
+    requires graded { AreGradedVectors circuit.now graded.now }
+    requires order { from < to }
+    requires inside { to ≤ length graded.now.vectors.list }
+    requires list { list.now ≡ record {
+      width = circuit.now.inputs;
+      list = without_run graded.now.vectors.list from to;
+    } }
+    ensures circuit { OnOk result (frame.new.group.circuit ≡ circuit.now) }
+    ensures lost { IfOk result (λ lost. ForSome lost
+        (IsMissed circuit.now graded.now.wanted.items list.now.list)) }
+{
+    let marks = marks_of(alloc, graded.at.len(), hard)?;
+    let moment = &graded.moments[from as usize];
+    let mut machines = Machines::at_moment(alloc, moment, &graded.at, &marks)?;
+    let later = to - from;
+    machines.run(
+        alloc,
+        circuit,
+        frame,
+        &graded.faults,
+        &graded.wanted,
+        list,
+        &graded.moments,
+        from,
+        later,
+    )
+}
+
+/// What a list gives that is a graded one without the vectors from `from` on before `to`. What is detected before
+/// vector `from` stays detected where it is, so only the other machines run, from what they hold before it: first those
+/// among which one is likely to be lost, so that a trial that loses it ends there.
+///
+/// # Errors
+///
+/// `AllocError`: out of memory.
+pub fn rerun_without(
+    alloc: Global,
+    circuit: &Circuit,
+    frame: &mut FrameGrader,
     graded: &GradedVectors,
     recent: &Recent,
     from: u64,
     to: u64,
     list: &Vectors,
-) -> Result<Run, AllocError>
-    requires faults { faults.now ≡ faults_of circuit.now }
+) -> Result<Rerun, AllocError>
+    requires circuit { frame.old.group.circuit ≡ circuit.now }
     requires graded { AreGradedVectors circuit.now graded.now }
+    requires order { from < to }
+    requires inside { to ≤ length graded.now.vectors.list }
     requires list { list.now ≡ record {
       width = circuit.now.inputs;
       list = without_run graded.now.vectors.list from to;
     } }
-    requires inside { from ≤ length graded.now.vectors.list }
-    ensures { IfOk result (RunGives circuit.now graded.now.wanted.items list.now.list) }
+    ensures circuit { OnOk result (frame.new.group.circuit ≡ circuit.now) }
+    ensures gives { IfOk result (TrialGives circuit.now graded.now list.now.list from) }
 {
-    let wanted = &graded.wanted;
-    let mut places = places_at_first(alloc, &graded.at, from)?;
-    let hard = hard_faults(alloc, graded, recent, &places.marks, from, to)?;
-    if let Some(k) = try_faults(alloc, circuit, faults, list, wanted, &hard, &mut places)? {
-        return Ok(Run::Misses(k));
+    let marks = marks_from(alloc, &graded.at, from)?;
+    let hard = hard_faults(alloc, graded, recent, &marks, from, to)?;
+    if let Some(k) = lost_among(alloc, circuit, frame, graded, &hard, from, to, list)? {
+        return Ok(Rerun::Misses(k));
     }
-    let rest = open_faults(alloc, &places.marks)?;
-    if let Some(k) = try_faults(alloc, circuit, faults, list, wanted, &rest, &mut places)? {
-        return Ok(Run::Misses(k));
-    }
-    Ok(Run::Found(places.at))
+    let moment = &graded.moments[from as usize];
+    let mut machines = Machines::at_moment(alloc, moment, &graded.at, &marks)?;
+    finish(
+        alloc,
+        circuit,
+        frame,
+        &graded.faults,
+        &graded.wanted,
+        list,
+        &graded.moments,
+        from,
+        to - from,
+        &mut machines,
+    )
 }

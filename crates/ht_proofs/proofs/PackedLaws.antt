@@ -149,12 +149,12 @@ start_stands c start faults = record {
 }
 
 -- the circuit has the lines of the fault list
-line_there : (c : Netlist) (site : Site) → IsFaultSite c site → HasLine c site
+pub line_there : (c : Netlist) (site : Site) → IsFaultSite c site → HasLine c site
 line_there c (Stem x) h = h
 line_there c (DffPin j) h = h.0
 line_there c (GatePin g i) h = (h.0, h.1)
 
-chosen_lines : (c : Netlist) (faults : List Fault) (which : List ℕ) (k : ℕ) (fault : Fault) → faults ≡ faults_of c
+pub chosen_lines : (c : Netlist) (faults : List Fault) (which : List ℕ) (k : ℕ) (fault : Fault) → faults ≡ faults_of c
     → All (λ i. i < length faults) which → slice_get (chosen_faults faults which) k ≡ Some fault
     → HasLine c fault.site
 chosen_lines c faults which k fault is known has =
