@@ -397,6 +397,9 @@ impl Machines {
             start_frame(frame, list.get(s), &self.latches, moments, t);
             self.step(alloc, circuit, frame, faults, wanted, list, s)?;
         }
-        Ok(self.undetected.first().copied())
+        if self.undetected.is_empty() {
+            return Ok(None);
+        }
+        Ok(Some(self.undetected[0]))
     }
 }
