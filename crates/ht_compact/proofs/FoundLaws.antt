@@ -15,7 +15,7 @@ use Rattle.ht_compact.specs.declared.moment.Moment.{Moment}
 use Rattle.ht_compact.specs.DetectedFaults.{IsDetectedFault, IsMissed}
 use Rattle.ht_compact.specs.GradedLists.{AreFoundWithout}
 use Rattle.ht_compact.specs.Moments.{wanted_fault}
-use Rattle.ht_compact.specs.Trials.{AreBefore, AreFound, AreRecorded, AreVerdicts, IsOpenUntil, vector_of}
+use Rattle.ht_compact.specs.Trials.{AreBefore, AreFound, AreRecorded, AreVerdicts, IsOpenUntil, place_vector, vector_of}
 
 -- the vector of a verdict
 vector_is : (grades : List Grade) (at : List ℕ) (k : ℕ) (p : Place) → at ≡ map vector_of grades → k < length grades
@@ -23,7 +23,7 @@ vector_is : (grades : List Grade) (at : List ℕ) (k : ℕ) (p : Place) → at �
 vector_is grades at k p is less found =
     ap (λ (l : List ℕ). get_or l k 0) is
     ∙ (get_or-map vector_of grades k no_grade 0 less
-    ∙ ap (λ (v : Option Place). vector_of (record { verdict = v; diffs = (grade_at grades k).diffs })) found)
+    ∙ ap place_vector found)
 
 -- after the last vector a fault without a verdict is missed
 pub missed_at_end : (c : Netlist) (wanted : List ℕ) (list : List (List Bool)) (machines : Machines) (k : ℕ)
@@ -45,7 +45,7 @@ pub all_found : (c : Netlist) (wanted : List ℕ) (list : List (List Bool)) (fro
     → AreVerdicts c wanted list (length list) new → AreRecorded c wanted list from (length list) new moments
     → ((k : ℕ) → k < length new → is_some (grade_at new k).verdict ≡ true) → at ≡ map vector_of new
     → ((k t : ℕ) → IsOpenUntil new k t → IsOpenUntil old k t) → AreFound c wanted old list from at moments
-all_found c wanted list from old new at moments long verdicts recorded all is open = record {
+all_found c wanted list from old new at moments long verdicts recorded all is still = record {
   detected = record {
     every = ap (λ (l : List ℕ). length l) is ∙ (length-map new vector_of ∙ long);
     each = λ k less. elim (option_cases (grade_at new k).verdict) [
@@ -58,7 +58,7 @@ all_found c wanted list from old new at moments long verdicts recorded all is op
   every = recorded.every;
   each = recorded.each;
   kept = λ i d k less known until. recorded.kept i d k less known (until_at k (from + i) known until);
-  earlier = λ k t known until. open k t (until_at k t known until);
+  earlier = λ k t known until. still k t (until_at k t known until);
 }
   where
     never : (k : ℕ) → k < length new → ¬ ((grade_at new k).verdict ≡ None)

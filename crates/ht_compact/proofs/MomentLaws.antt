@@ -1,8 +1,6 @@
 -- What the machines hold before each vector, in lists that begin alike.
 use Rattle.std.proofs.Common.{◌≡◌, ◌<◌, ◌≤◌, ◌+◌, ◌-◌, ◌++◌, ◌∷◌, [], inl, inr, ℕ, List, Bool, true, false, Option, Some, None, length, get_or, map, take, drop, refl, sym, ◌∙◌, ap, subst, arith, length-append}
-use Rattle.std.specs.Prelude.{unwrap_or}
 use Rattle.std.specs.List.{All, Contains}
-use Rattle.std.specs.Option.{option_map}
 use Rattle.std.proofs.Math.Seq.{get_or-append_seam}
 use Rattle.std.proofs.lemmas.Bool.{cases_eq}
 use Rattle.std.proofs.lemmas.List.{get_or_append_left, get_or-append_right, get_or_default, get_or-drop, get_or-map, get_or_past, get_or-take, length-map, length-take-le, map-map, map-id, take-take}
@@ -28,7 +26,7 @@ use Rattle.ht_compact.specs.declared.moment.Moment.{Moment}
 use Rattle.ht_compact.specs.Kept.{without_run}
 use Rattle.ht_compact.specs.DetectedFaults.{AreDetectedAt, IsDetectedFault}
 use Rattle.ht_compact.specs.Moments.{AreMoments, HoldsMachine, IsKeptMachine, IsMoment, places_of, state_before, wanted_fault}
-use Rattle.ht_compact.specs.Trials.{AreBefore, AreFramesOf, AreRecorded, AreTakenUp, AreVerdicts, IsOpenUntil, ended_at, is_marked, kept_machine, kept_machines}
+use Rattle.ht_compact.specs.Trials.{AreBefore, AreFramesOf, AreRecorded, AreTakenUp, AreVerdicts, IsOpenUntil, ended_at, is_marked, kept_machine, kept_machines, place_vector}
 use Rattle.ht_compact.proofs.FrontLaws.{detected_before_run, same_in_front}
 use Rattle.ht_compact.proofs.WithoutLaws.{front_without}
 
@@ -91,7 +89,7 @@ ended_vector : (at : List ℕ) (grades : List Grade) (k : ℕ) (p : Place) → k
     → grade_at grades k ≡ grade_at (map ended_at at) k → (grade_at grades k).verdict ≡ Some p
     → p.vector ≡ get_or at k 0
 ended_vector at grades k p less same found =
-    ap (λ (v : Option Place). unwrap_or (option_map (λ (q : Place). q.vector) v) 0)
+    ap place_vector
     (sym found ∙ ap (λ (g : Grade). g.verdict) (same ∙ ended_here at k less))
 
 ended_known : (c : Netlist) (at : List ℕ) (k : ℕ) → AreLatches c (grade_at (map ended_at at) k).diffs
@@ -118,7 +116,7 @@ taken_before c wanted at list other marks from moment machines long is same latc
   undetected = listed;
   holds = λ k less none. elim (taken.each k) [
     | inl stays ↦
-        let bad : Some (record { vector = get_or at k 0; output = 0 }) ≡ None =
+        let bad : (ended_at (get_or at k 0)).verdict ≡ None =
         sym (ap (λ (g : Grade). g.verdict) (stays ∙ ended_here at k (omega (arith, less, long)))) ∙ none in
         cc
     | inr up ↦
@@ -176,8 +174,8 @@ taken_verdicts c wanted at list marks from to machines grades inside detected ke
                 let one : DetectedFault = record { fault = get_or wanted k 0; vector = get_or at k 0 } in (
                   omega (arith, vector, before),
                   subst (λ (v : ℕ). IsDetectedFault c (without_run list from to)
-                  (record { fault = get_or wanted k 0; vector = v })) (sym vector)
-                  (detected_before_run c list from to one inside before (detected.each k less)),
+                      (record { fault = get_or wanted k 0; vector = v })) (sym vector)
+                      (detected_before_run c list from to one inside before (detected.each k less)),
                 )
           ]
       | inr up ↦
@@ -190,9 +188,9 @@ pub taken_earlier : (at : List ℕ) (marks : List Bool) (from : ℕ) (machines :
     (grades : List Grade) → ((k : ℕ) → k < length at → is_marked marks k ≡ true → from ≤ get_or at k 0)
     → AreTakenUp machines marks (length machines) (map ended_at at) grades
     → (k t : ℕ) → k < length at → t < from → IsOpenUntil grades k t → t ≤ get_or at k 0
-taken_earlier at marks from machines grades marked taken k t inside before open = elim (taken.each k) [
+taken_earlier at marks from machines grades marked taken k t inside before still = elim (taken.each k) [
   | inl stays ↦
-      open (record { vector = get_or at k 0; output = 0 })
+      still (record { vector = get_or at k 0; output = 0 })
       (ap (λ (g : Grade). g.verdict) (stays ∙ ended_here at k inside))
   | inr up ↦ omega (arith, before, marked k inside up.marked)
 ]
@@ -262,7 +260,7 @@ pub recorded_more : (c : Netlist) (wanted : List ℕ) (list : List (List Bool)) 
     → moment.machines.items ≡ kept_machines machines.grades.items machines.undetected.items
     → ((k t : ℕ) → IsOpenUntil new k t → IsOpenUntil machines.grades.items k t) → more ≡ recorded ++ moment ∷ []
     → AreRecorded c wanted list from (s + 1) new more
-recorded_more c wanted list from s machines new recorded more moment so_far before verdicts is kept open pushed =
+recorded_more c wanted list from s machines new recorded more moment so_far before verdicts is kept still pushed =
     let n = length recorded in
     let last : (i : ℕ) (d : Moment) → i ≡ n → get_or (recorded ++ moment ∷ []) i d ≡ moment =
     λ i d same. ap (λ (j : ℕ). get_or (recorded ++ moment ∷ []) j d) same
@@ -296,11 +294,11 @@ recorded_more c wanted list from s machines new recorded more moment so_far befo
         | inl same ↦
             subst (λ (m : Moment). Contains (places_of m.machines.items) k) (sym (last i d same))
             (here k known (subst (IsOpenUntil grades k) (omega (arith, same, so_far.every))
-            (open k (from + i) until)))
+            (still k (from + i) until)))
         | inr other ↦
             let inside : i < n = omega (arith, less, other, length-append recorded (moment ∷ [])) in
             subst (λ (m : Moment). Contains (places_of m.machines.items) k) (sym (earlier i d inside))
-            (so_far.kept i d k inside known (open k (from + i) until))
+            (so_far.kept i d k inside known (still k (from + i) until))
       ];
     })
 
@@ -340,11 +338,11 @@ moments_without c wanted at new_at list from to moments others more order inside
     let front : length (take from moments) ≡ from =
     length-take-le from moments (omega (arith, order, inside, are.every)) in
     let before : (t : ℕ) (d : Moment) → t < from
-        → get_or (take from moments ++ others) t d ≡ get_or moments t d =
+    → get_or (take from moments ++ others) t d ≡ get_or moments t d =
     λ t d less. get_or_append_left (take from moments) others d t (omega (arith, less, front))
     ∙ get_or-take from moments t d less in
     let after : (t : ℕ) (d : Moment) → from ≤ t
-        → get_or (take from moments ++ others) t d ≡ get_or others (t - from) d =
+    → get_or (take from moments ++ others) t d ≡ get_or others (t - from) d =
     λ t d past. get_or-append_right (take from moments) others from t d front past in
     subst (AreMoments c wanted new_at shorter) (sym is) (record {
       every = omega (arith, length-append (take from moments) others, front, every);

@@ -45,13 +45,13 @@ taken_set machines marks n machine old new after inside is marked known written 
   every = ap (λ (l : List Grade). length l) written ∙ (length-set new machine.place up ∙ so_far.every);
   each = λ k. elim (cases_eq k machine.place) [
     | inl same ↦ inr (record {
-        index = n;
-        before = omega arith;
-        marked = ap (is_marked marks) same ∙ marked;
-        place = ap (λ (m : FaultyLatches). m.place) (sym is) ∙ sym same;
-        grade = ap (grade_at after) same
-            ∙ (here ∙ ap (λ (m : FaultyLatches). record { verdict = None; diffs = m.diffs }) is);
-      })
+      index = n;
+      before = omega arith;
+      marked = ap (is_marked marks) same ∙ marked;
+      place = ap (λ (m : FaultyLatches). m.place) (sym is) ∙ sym same;
+      grade = ap (grade_at after) same
+          ∙ (here ∙ ap (λ (m : FaultyLatches). record { verdict = None; diffs = m.diffs }) is);
+    })
     | inr other ↦ elim (so_far.each k) [
       | inl stays ↦ inl (there k other ∙ stays)
       | inr before ↦ inr (later_up machines marks n k new after (there k other) before)

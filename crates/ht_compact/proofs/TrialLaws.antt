@@ -1,8 +1,8 @@
 -- What a trial knows of the wanted faults, vector by vector.
-use Rattle.std.proofs.Common.{◌≡◌, ◌<◌, ◌≤◌, ◌+◌, ◌++◌, ◌∷◌, [], inl, inr, ℕ, List, Bool, Option, Some, None, length, get_or, map, take, refl, sym, ◌∙◌, ap, subst, arith, length-append}
+use Rattle.std.proofs.Common.{◌≡◌, ◌<◌, ◌≤◌, ◌+◌, ◌++◌, ◌∷◌, [], inl, inr, ℕ, List, Bool, true, Option, Some, None, length, get_or, map, replicate, take, refl, sym, ◌∙◌, ap, subst, arith, length-append}
 use Rattle.std.specs.List.{All, Contains, slice_get}
 use Rattle.std.specs.Option.{option_map}
-use Rattle.std.proofs.lemmas.List.{take_more, take-take, length-take, length-take-le}
+use Rattle.std.proofs.lemmas.List.{get_or_past, get_or-replicate, length-replicate, take_more, take-take, length-take, length-take-le}
 use Rattle.std.proofs.lemmas.Option.{slice_get-map, slice_get-get_or}
 use Rattle.ht_tern.specs.declared.tern.Tern.{Tern}
 use Rattle.ht_net.specs.declared.fault.Fault.{Fault}
@@ -16,18 +16,21 @@ use Rattle.ht_faults.specs.Sites.{faults_of}
 use Rattle.ht_faults.specs.Classes.{fault_at}
 use Rattle.ht_group.specs.declared.diffs.Diff.{Diff}
 use Rattle.ht_group.specs.Differences.{with_differences}
-use Rattle.ht_group.specs.GroupView.{FaultyMachine, GroupView}
+use Rattle.ht_group.specs.GroupView.{AreLatches, FaultyMachine, GroupView}
 use Rattle.ht_proofs.specs.declared.grade.Grade.{Grade}
 use Rattle.ht_proofs.specs.Applied.{IsFirstSeen, faulty_state, good_state}
 use Rattle.ht_proofs.specs.Batches.{IsGradedFrame, machine_from}
-use Rattle.ht_proofs.specs.LaneGrades.{IsGradedFault, grade_at}
+use Rattle.ht_proofs.specs.LaneGrades.{IsGradedFault, grade_at, no_grade}
 use Rattle.ht_proofs.specs.PackedView.{chosen_faults}
+use Rattle.ht_proofs.specs.Undetected.{undetected_of, verdicts_of}
+use Rattle.ht_proofs.proofs.DiffLaws.{no_differences}
 use Rattle.ht_proofs.proofs.VectorLaws.{IsLast, first_new, found_inside, latches_more, option_cases}
 use Rattle.ht_compact.specs.declared.moment.FaultyLatches.{FaultyLatches}
 use Rattle.ht_compact.specs.declared.moment.Moment.{Moment}
 use Rattle.ht_compact.specs.DetectedFaults.{IsDetectedFault, IsMissed}
 use Rattle.ht_compact.specs.Moments.{HoldsMachine, IsKeptMachine, IsMoment, IsUndetectedBefore, places_of, state_before, wanted_fault}
-use Rattle.ht_compact.specs.Trials.{AreVerdicts, IsOpenUntil}
+use Rattle.ht_compact.specs.declared.machines.Machines.{Machines}
+use Rattle.ht_compact.specs.Trials.{AreBefore, AreVerdicts, IsOpenUntil}
 use Rattle.ht_compact.proofs.FrontLaws.{detects_in_front, same_in_front}
 
 -- ---- one vector more
@@ -165,3 +168,86 @@ pub open_before : (frame : GroupView) (faults : List Fault) (s : ℕ) (old new :
     → IsGradedFrame frame faults s old new → (k t : ℕ) → IsOpenUntil new k t → IsOpenUntil old k t
 open_before frame faults s old new graded k t is p found =
     is p (ap (λ (g : Grade). g.verdict) (graded.kept k p found) ∙ found)
+
+-- ---- the machines, one vector more
+
+-- the frame of the good machine, before any machine is added
+abbrev pub frame_at : Netlist → List (List Bool) → ℕ → List Tern → GroupView
+frame_at c list s latches = record {
+  circuit = c;
+  vector = terns_of (get_or list s []);
+  latches = latches;
+  machines = [];
+  settled = true;
+}
+
+-- it is the frame of each fault without a verdict
+pub frames_of : (c : Netlist) (wanted : List ℕ) (list : List (List Bool)) (s : ℕ) (machines : Machines)
+    (frame : GroupView) → frame ≡ frame_at c list s machines.latches.items → AreBefore c wanted list s machines
+    → (k : ℕ) → k < length wanted → (grade_at machines.grades.items k).verdict ≡ None
+    → IsFrameOf c (wanted_fault c wanted k) list s frame (grade_at machines.grades.items k)
+frames_of c wanted list s machines frame begun is k less none =
+    subst (λ (f : GroupView). IsFrameOf c (wanted_fault c wanted k) list s f (grade_at machines.grades.items k))
+    (sym begun) (record { circuit = refl; vector = refl; good = is.good; holds = is.holds k less none })
+
+-- after the frame the machines stand before the next vector
+pub stepped : (c : Netlist) (wanted : List ℕ) (faults : List Fault) (list : List (List Bool)) (s : ℕ)
+    (old new : Machines) (frame : GroupView) → s < length list → faults ≡ chosen_faults (faults_of c) wanted
+    → frame ≡ frame_at c list s old.latches.items → AreBefore c wanted list s old
+    → IsGradedFrame frame faults s old.grades.items new.grades.items
+    → length new.grades.items ≡ length old.grades.items → new.latches.items ≡ good_state frame
+    → new.undetected.items ≡ undetected_of (verdicts_of new.grades.items)
+    → ((k : ℕ) → AreLatches frame.circuit (grade_at new.grades.items k).diffs)
+    → AreBefore c wanted list (s + 1) new
+stepped c wanted faults list s old new frame inside chosen begun is graded long latches listed known = record {
+  every = long ∙ is.every;
+  good = latches ∙ (ap good_state begun
+      ∙ (ap (next_state c (tern_rules None) (terns_of (get_or list s []))) is.good
+      ∙ sym (state_more c None list s inside)));
+  undetected = listed;
+  holds = λ k less none.
+      let fault = wanted_fault c wanted k in
+      let was = had_none frame faults s k old.grades.items new.grades.items graded none in
+      subst (λ (l : List Tern). HoldsMachine c fault list (s + 1) l (grade_at new.grades.items k).diffs) (sym latches)
+      (still_holds c fault list s frame (grade_at old.grades.items k) (grade_at new.grades.items k) inside
+      (frames_of c wanted list s old frame begun is k less was)
+      (graded.graded k fault (chosen_at c wanted faults k chosen less) was) none);
+  known = λ k. subst (λ (f : GroupView). AreLatches f.circuit (grade_at new.grades.items k).diffs) begun (known k);
+}
+
+-- ---- before the first vector
+
+-- the machines before the first vector, where every flip-flop is unknown
+pub at_first : (c : Netlist) (wanted : List ℕ) (list : List (List Bool)) (machines : Machines)
+    → machines.latches.items ≡ unknown_state c → machines.grades.items ≡ replicate (length wanted) no_grade
+    → machines.undetected.items ≡ undetected_of (verdicts_of machines.grades.items)
+    → AreBefore c wanted list 0 machines
+at_first c wanted list machines latches grades listed = record {
+  every = ap (λ (l : List Grade). length l) grades ∙ length-replicate (length wanted) no_grade;
+  good = latches;
+  undetected = listed;
+  holds = λ k less none. record {
+    state = ap (λ (g : Grade). with_differences machines.latches.items g.diffs) (none_here k)
+        ∙ (no_differences machines.latches.items ∙ latches);
+    undetected = λ t o before. absurd (omega (arith, before));
+  };
+  known = λ k. subst (λ (g : Grade). AreLatches c g.diffs) (sym (none_here k)) (λ i d less. absurd (omega (arith, less)));
+}
+  where
+    none_here : (k : ℕ) → grade_at machines.grades.items k ≡ no_grade
+    none_here k = ap (λ (l : List Grade). grade_at l k) grades ∙ all_none (length wanted) k
+
+    all_none : (n k : ℕ) → grade_at (replicate n no_grade) k ≡ no_grade
+    all_none n k = elim (le_or_lt n k) [
+      | inl past ↦ get_or_past (replicate n no_grade) k no_grade (omega (arith, past, length-replicate n no_grade))
+      | inr inside ↦ get_or-replicate n k no_grade no_grade inside
+    ]
+
+-- none of them has a verdict
+pub none_at_first : (c : Netlist) (wanted : List ℕ) (list : List (List Bool)) (grades : List Grade)
+    → grades ≡ replicate (length wanted) no_grade → AreVerdicts c wanted list 0 grades
+none_at_first c wanted list grades is k p less found =
+    let bad : None ≡ Some p =
+    sym (ap (λ (g : Grade). g.verdict) (ap (λ (l : List Grade). grade_at l k) is
+    ∙ get_or-replicate (length wanted) k no_grade no_grade less)) ∙ found in
+    cc

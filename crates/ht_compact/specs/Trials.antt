@@ -1,6 +1,5 @@
 -- What a trial of a shorter list knows of the wanted faults.
-use Rattle.std.specs.Prelude.{◌≡◌, ◌<◌, ◌≤◌, ◌+◌, ◌⊎◌, ℕ, List, [], Bool, true, false, Some, None, length, get_or, map, unwrap_or}
-use Rattle.std.specs.Option.{option_map}
+use Rattle.std.specs.Prelude.{◌≡◌, ◌<◌, ◌≤◌, ◌+◌, ◌⊎◌, ℕ, List, [], Bool, true, false, Some, None, length, get_or, Option, map}
 use Rattle.std.specs.List.{Contains}
 use Rattle.ht_net.specs.declared.place.Place.{Place}
 use Rattle.ht_net.specs.Circuit.Netlist.{Netlist}
@@ -83,9 +82,14 @@ pub record AreTakenUp (machines : List FaultyLatches) (marks : List Bool) (n : �
   pub taken : (i : ℕ) (d : FaultyLatches) → i < n → is_marked marks (get_or machines i d).place ≡ true
       → (grade_at new (get_or machines i d).place).verdict ≡ None
 
--- the vector of a verdict, and 0 where there is none
+-- the vector of a place, and 0 where there is none
+abbrev pub place_vector : Option Place → ℕ
+place_vector None = 0
+place_vector (Some p) = p.vector
+
+-- the vector of a verdict
 abbrev pub vector_of : Grade → ℕ
-vector_of grade = unwrap_or (option_map (λ (p : Place). p.vector) grade.verdict) 0
+vector_of grade = place_vector grade.verdict
 
 -- What is found over a list from vector `from` on: a vector that detects each wanted fault, and the moments from there
 -- on. A fault that had a verdict before has no later one.

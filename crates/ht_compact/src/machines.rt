@@ -48,15 +48,7 @@ fn undetected_faults(alloc: Global, grades: &[Grade]) -> Result<Vec<usize>, Allo
 fn are_same(latches: &[Tern], others: &[Tern]) -> bool
     ensures { IsTrue result → latches.now ≡ others.now }
 {
-    if latches.len() != others.len() {
-        return false;
-    }
-    for j in 0..latches.len() {
-        if latches[j] != others[j] {
-            return false;
-        }
-    }
-    true
+    latches == others
 }
 
 // Begins the good machine's frame with a vector. Where its latches are those of moment `t`, the values of its nets are
@@ -161,7 +153,11 @@ impl Machines {
     /// # Errors
     ///
     /// `AllocError`: out of memory.
-    pub fn at_start(alloc: Global, circuit: &Circuit, wanted: &[u32]) -> Result<Machines, AllocError>
+    pub fn at_start(
+        alloc: Global,
+        circuit: &Circuit,
+        wanted: &[u32],
+    ) -> Result<Machines, AllocError>
         ensures before { IfOk result (λ machines. (list : List (List Bool))
             → AreBefore circuit.now wanted.now list 0 machines) }
         ensures verdicts { IfOk result (λ machines. (list : List (List Bool))
@@ -238,6 +234,7 @@ impl Machines {
     ) -> Result<(), AllocError>
         requires circuit { frame.old.group.circuit ≡ circuit.now }
         requires faults { faults.now ≡ chosen_faults (faults_of circuit.now) wanted.now }
+        requires wanted { All (λ i. i < length (faults_of circuit.now)) wanted.now }
         requires inside { s < length list.now.list }
         requires begun { frame.old.group ≡ record {
           circuit = circuit.now;
@@ -254,7 +251,7 @@ impl Machines {
         ensures verdicts { OnOk result
             (AreVerdicts circuit.now wanted.now list.now.list s self.old.grades.items
             → AreVerdicts circuit.now wanted.now list.now.list (s + 1) self.new.grades.items) }
-        ensures open { OnOk result ((k t : ℕ) → IsOpenUntil self.new.grades.items k t
+        ensures still { OnOk result ((k t : ℕ) → IsOpenUntil self.new.grades.items k t
             → IsOpenUntil self.old.grades.items k t) }
     {
         let mut steps = Steps::new();
@@ -279,6 +276,7 @@ impl Machines {
     ) -> Result<(), AllocError>
         requires circuit { frame.old.group.circuit ≡ circuit.now }
         requires faults { faults.now ≡ chosen_faults (faults_of circuit.now) wanted.now }
+        requires wanted { All (λ i. i < length (faults_of circuit.now)) wanted.now }
         requires width { list.now.width ≡ circuit.now.inputs }
         requires inside { s < length list.now.list }
         requires known { (d : kept.Moment) → t < length moments.now
@@ -291,7 +289,7 @@ impl Machines {
             (AreBefore circuit.now wanted.now list.now.list (s + 1) self.new) }
         ensures verdicts { OnOk result
             (AreVerdicts circuit.now wanted.now list.now.list (s + 1) self.new.grades.items) }
-        ensures open { OnOk result ((k t : ℕ) → IsOpenUntil self.new.grades.items k t
+        ensures still { OnOk result ((k t : ℕ) → IsOpenUntil self.new.grades.items k t
             → IsOpenUntil self.old.grades.items k t) }
         ensures recorded { OnOk result ((from : ℕ) → AreRecorded circuit.now wanted.now list.now.list
             from s self.old.grades.items recorded.old.items
@@ -324,6 +322,7 @@ impl Machines {
     ) -> Result<Vec<Moment>, AllocError>
         requires circuit { frame.old.group.circuit ≡ circuit.now }
         requires faults { faults.now ≡ chosen_faults (faults_of circuit.now) wanted.now }
+        requires wanted { All (λ i. i < length (faults_of circuit.now)) wanted.now }
         requires width { list.now.width ≡ circuit.now.inputs }
         requires inside { from ≤ length list.now.list }
         requires fits { length list.now.list + later < 2 ^ 64 }
@@ -336,7 +335,7 @@ impl Machines {
             (AreBefore circuit.now wanted.now list.now.list (length list.now.list) self.new) }
         ensures verdicts { OnOk result (AreVerdicts circuit.now wanted.now list.now.list
             (length list.now.list) self.new.grades.items) }
-        ensures open { OnOk result ((k t : ℕ) → IsOpenUntil self.new.grades.items k t
+        ensures still { OnOk result ((k t : ℕ) → IsOpenUntil self.new.grades.items k t
             → IsOpenUntil self.old.grades.items k t) }
         ensures recorded { IfOk result (λ recorded. AreRecorded circuit.now wanted.now list.now.list
             from (length list.now.list) self.new.grades.items recorded.items) }
@@ -380,6 +379,7 @@ impl Machines {
     ) -> Result<Option<usize>, AllocError>
         requires circuit { frame.old.group.circuit ≡ circuit.now }
         requires faults { faults.now ≡ chosen_faults (faults_of circuit.now) wanted.now }
+        requires wanted { All (λ i. i < length (faults_of circuit.now)) wanted.now }
         requires width { list.now.width ≡ circuit.now.inputs }
         requires inside { from ≤ length list.now.list }
         requires fits { length list.now.list + later < 2 ^ 64 }

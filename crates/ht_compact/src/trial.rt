@@ -161,6 +161,7 @@ pub fn finish(
 ) -> Result<Rerun, AllocError>
     requires circuit { frame.old.group.circuit ≡ circuit.now }
     requires faults { faults.now ≡ chosen_faults (faults_of circuit.now) wanted.now }
+    requires wanted { All (λ i. i < length (faults_of circuit.now)) wanted.now }
     requires width { list.now.width ≡ circuit.now.inputs }
     requires inside { from ≤ length list.now.list }
     requires fits { length list.now.list + later < 2 ^ 64 }

@@ -22,4 +22,5 @@ pub record IsGoodFrame (c : Netlist) (frame : GoodFrame) : Type 0 where
 -- these are the values of all nets in the good machine's frame with a vector and latches
 pub record AreFrameValues (c : Netlist) (vector latches values : List Tern) : Type 0 where
   pub count : length values ≡ net_count c
-  pub each : (x : ℕ) → x < net_count c → get_or values x Unk ≡ net_value c (tern_rules None) vector latches x
+  pub each : (x : ℕ) → x < net_count c
+      → get_or values x Unk ≡ net_value c (tern_rules None) vector latches x
