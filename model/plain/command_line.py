@@ -9,7 +9,7 @@ compact NETLIST TESTS OUT, diagnose NETLIST TESTS RESPONSES OUT, \
 uninit NETLIST OUT [--budget N], sync NETLIST TESTS OUT [--budget N], \
 respond NETLIST TESTS OUT [--fault N] [--start FILE] [--lines], \
 report NETLIST TESTS PROOFS REPORT [--budget N] [--start FILE], \
-breed NETLIST TESTS OUT [--vectors N] [--seed S] [--start FILE]
+breed NETLIST TESTS OUT [--vectors N] [--seed S] [--start FILE], causes NETLIST TESTS OUT [--start FILE]
 """
 # of each option what it says where it is left out, and its least and greatest number
 OPTIONS = {"budget": (1_000, 1, 100_000), "random": (0, 0, 100_000), "seed": (0, 0, 2**64 - 1), "weighted": (0, 0, 100_000)}
