@@ -7,7 +7,7 @@ const decoder = new TextDecoder(), encoder = new TextEncoder();
 
 // Lays words and files, runs, and takes the standard streams and the files that were made.
 async function run({ words, files, made }) {
-  const { exports } = await WebAssembly.instantiate(module, {});
+  const { exports } = await WebAssembly.instantiate(await module, {});
   const put = text => {
     const bytes = encoder.encode(text), at = exports.page_room(BigInt(bytes.length));
     if (!at) throw new Error("there is no memory for the files");
@@ -28,7 +28,8 @@ async function run({ words, files, made }) {
 
 onmessage = async ({ data }) => {
   try {
-    if (data.bytes) module = await WebAssembly.compile(data.bytes);
+    // a promise, for the next run may be asked for before the module is there
+    if (data.bytes) module = WebAssembly.compile(data.bytes);
     postMessage({ number: data.number, answer: await run(data) });
   } catch (error) {
     postMessage({ number: data.number, error: String(error.message || error) });
