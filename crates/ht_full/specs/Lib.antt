@@ -1,0 +1,4 @@
+pub mod Known
+pub mod KnownOf
+pub mod Searches
+pub mod SearchOf
