@@ -1,5 +1,5 @@
 -- What is known goes on: in no step, by vectors, by an entry, and in two steps.
-use Rattle.std.proofs.Common.{◌≡◌, ◌++◌, ◌∙◌, ℕ, List, Bool, Option, Some, None, [], inl, inr, set, refl, sym, ap, subst, append_assoc, append-nil}
+use Rattle.std.proofs.Common.{◌≡◌, ◌++◌, ◌∙◌, ◌<◌, ◌≤◌, ℕ, IsTrue, List, Bool, false, length, arith, Option, Some, None, [], inl, inr, set, refl, sym, ap, subst, append_assoc, append-nil}
 use Rattle.std.proofs.lemmas.Bool.Decides.{eqb_tells}
 use Rattle.std.proofs.lemmas.List.{get_or-set_other}
 use Rattle.ht_tern.specs.declared.tern.Tern.{Tern}
@@ -8,7 +8,9 @@ use Rattle.ht_net.specs.Frames.Rows.{Rows}
 use Rattle.ht_proofs.specs.ClassGraderView.{ClassGraderStandsFor, ClassGraderView}
 use Rattle.ht_tree.specs.declared.entry.Entry as recorded
 use Rattle.ht_verdicts.specs.Standing.{VerdictsView, entry_at}
-use Rattle.ht_full.specs.Known.{KnowsMore, IsKnownOf, KnownView}
+use Rattle.ht_faults.specs.Sites.{faults_of}
+use Rattle.ht_faults.specs.Classes.{AreClasses}
+use Rattle.ht_full.specs.Known.{KnowsMore, IsKnownOf, IsStillOpen, KnownView}
 
 -- nothing is added
 pub stays : (a : KnownView) → KnowsMore a a
@@ -119,3 +121,15 @@ known_by_given c representatives start given a b known empty further added = rec
   added = added ∙ ap (λ (l : List (List Bool)). l ++ given) empty ∙ sym (append-nil given);
   stands = further.stands known.stands;
 }
+
+-- ---- what isn't open
+
+-- a number that no fault has
+pub outside_is_not_open : (c : Netlist) (representatives : List ℕ) (k : KnownView) (i count : ℕ)
+    → AreClasses c representatives → k.verdicts.circuit ≡ c → count ≡ length representatives → count ≤ i
+    → (IsTrue false → IsStillOpen k i) × (IsStillOpen k i → IsTrue false)
+outside_is_not_open c representatives k i count classes circuit counted outside =
+    (λ none. absurd (cc), λ is. absurd (omega (arith, classes.every, counted, outside, inside is)))
+  where
+    inside : IsStillOpen k i → i < length (faults_of c)
+    inside is = subst (λ (n : Netlist). i < length (faults_of n)) circuit is.own.listed
