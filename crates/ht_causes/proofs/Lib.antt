@@ -5,4 +5,8 @@ pub mod CauseLaws
 pub mod KeptLaws
 pub mod SightLaws
 pub mod ListedLaws
+pub mod NotedLaws
+pub mod AssignLaws
+pub mod WordShownLaws
+pub mod TrackLaws
 pub mod CauseTextLaws

@@ -2,28 +2,23 @@
 use Rattle.std.proofs.Common.{◌≡◌, ◌<◌, ◌≤◌, ◌+◌, ◌-◌, ◌∙◌, inl, inr, ℕ, suc, List, [], Bool, true, false, Option, Some, None, length, get_or, take, sym, ap, arith}
 use Rattle.std.specs.Prelude.{is_some}
 use Rattle.std.specs.Option.{option_map, option_or}
-use Rattle.std.proofs.lemmas.List.{ext_get_or, take-map}
+use Rattle.std.proofs.lemmas.List.{ext_get_or}
 use Rattle.ht_tern.specs.declared.tern.Tern.{Tern}
 use Rattle.ht_tern.specs.declared.tern.Tern.TheVariants.{Unk}
 use Rattle.ht_tern.specs.Gate.{tern_of}
 use Rattle.ht_tern.specs.Opposite.{are_opposite}
 use Rattle.ht_net.specs.declared.fault.Fault.{Fault}
 use Rattle.ht_net.specs.declared.place.Place.{Place}
-use Rattle.ht_net.specs.declared.net.NetId.{NetId}
 use Rattle.ht_net.specs.Circuit.Netlist.{Netlist}
-use Rattle.ht_net.specs.Frames.Frame.{next_state, run_state}
+use Rattle.ht_net.specs.Frames.Frame.{next_state}
 use Rattle.ht_net.specs.Frames.Faults.{tern_rules}
 use Rattle.ht_net.specs.Detect.Detection.{output_from, state_from, terns_of}
 use Rattle.ht_net.proofs.ValueLaws.{next_long}
-use Rattle.ht_stems.specs.Arrivals.{net_of_line}
-use Rattle.ht_serial.specs.MachineState.{MachineState}
-use Rattle.ht_serial.proofs.RowLaws.{Ran}
 use Rattle.ht_group.specs.GroupView.{GroupView, good_next, good_output}
-use Rattle.ht_group.specs.NetValues.{good_value}
 use Rattle.ht_causes.specs.declared.cause.LatchPlace.{LatchPlace}
 use Rattle.ht_causes.specs.declared.sightings.Sightings.{Sightings}
 use Rattle.ht_causes.specs.Firsts.{least_below, least_place}
-use Rattle.ht_causes.specs.Compared.{are_unlike, are_unsure, carried_from, detects_at, excites_at, first_detected, first_excited, first_possible, first_stored, is_ever_told, is_told, latch_from, latch_place, may_detect_at, net_from, output_place, stores_at, tells_at}
+use Rattle.ht_causes.specs.Compared.{are_unlike, are_unsure, carried_from, detects_at, excites_at, first_detected, first_excited, first_possible, first_stored, is_ever_told, is_told, latch_from, latch_place, may_detect_at, output_place, stores_at, tells_at}
 use Rattle.ht_causes.specs.Causes.{AreSightings, cause_of, cause_row, cause_within}
 use Rattle.ht_causes.specs.Kept.{AreLatchesCompared, AreOutputsCompared, no_sightings, with_carried}
 use Rattle.ht_causes.proofs.LeastLaws.{cases_option, least_same, place_longer}
@@ -188,42 +183,3 @@ none_kept c fault start list k is = record {
   excited = ap (λ (q : Sightings). q.excited) is;
   told = ap (λ (q : Sightings). q.told) is;
 }
-
--- ---- one vector, by what the machines were before it
-
-module _ (c : Netlist) (fault : Fault) (start : List Tern) (list : List (List Bool)) (t : ℕ)
-    (inside : t < length list) where
-  -- the good machine that begins a frame from what it holds after the vectors before
-  pub frame_begun : (before good : GroupView) (latches : List Tern) (v : List Bool) → before.circuit ≡ c
-      → latches ≡ state_from c None start (take t list) → v ≡ get_or list t []
-      → good ≡ good_alone before.circuit v latches → IsGoodFrame c fault start list t inside good
-  frame_begun before good latches v circuit held at is =
-      is ∙ (ap (λ (n : Netlist). good_alone n v latches) circuit
-      ∙ (ap (λ (w : List Bool). good_alone c w latches) at ∙ ap (good_alone c (get_or list t [])) held))
-
-  -- what the faulty machine shows and holds after the vector
-  pub faulty_shows : (m : MachineState Tern) → Ran c (Some fault) start list t m → (o : ℕ)
-      → get_or m.outputs o Unk ≡ output_from c (Some fault) start list t o
-  faulty_shows m ran o = ap (λ (row : List Tern). get_or row o Unk) ran.row
-
-  pub faulty_holds : (m : MachineState Tern) → Ran c (Some fault) start list t m → (j : ℕ)
-      → get_or m.latches j Unk ≡ latch_from c (Some fault) start list t j
-  faulty_holds m ran j =
-      ap (λ (s : List Tern). get_or s j Unk) (ap (λ (x : MachineState Tern). x.latches) ran.next
-      ∙ ap (run_state c (tern_rules (Some fault)) start) (take-map terns_of (t + 1) list))
-
-  -- what the fault's line carries
-  pub carried_read : (good : GroupView) → IsGoodFrame c fault start list t inside good → (net : NetId)
-      → net ≡ net_of_line c fault.site → (value : Tern) → value ≡ good_value good net.0
-      → value ≡ carried_from c fault.site start list t
-  carried_read good is net at value read =
-      read ∙ (ap (λ (g : GroupView). good_value g net.0) is
-      ∙ ap (λ (x : NetId). net_from c None start list t x.0) at)
-
-  -- what the good machine holds after the vector
-  pub latches_held : (good : GroupView) → IsGoodFrame c fault start list t inside good → (latches : List Tern)
-      → latches ≡ next_state c (tern_rules None) good.vector good.latches
-      → latches ≡ state_from c None start (take (t + 1) list)
-  latches_held good is latches read =
-      read ∙ (ap (λ (g : GroupView). next_state c (tern_rules None) g.vector g.latches) is
-      ∙ sym (state_next c None start list t inside))

@@ -1,12 +1,10 @@
 -- What is kept of a fault while vectors run, and how each value that is compared changes it.
-use Rattle.std.specs.Prelude.{◌≡◌, ℕ, get_or, Bool, false, ◌||◌, Option, Some, None, if◌then◌else◌}
+use Rattle.std.specs.Prelude.{◌≡◌, ℕ, Bool, true, false, ◌||◌, Option, Some, None, is_some, if◌then◌else◌}
 use Rattle.std.specs.Option.{option_map, option_or}
 use Rattle.ht_tern.specs.declared.tern.Tern.{Tern}
-use Rattle.ht_tern.specs.declared.tern.Tern.TheVariants.{Unk}
 use Rattle.ht_tern.specs.Gate.{tern_of}
 use Rattle.ht_tern.specs.Opposite.{are_opposite}
 use Rattle.ht_net.specs.declared.place.Place.{Place}
-use Rattle.ht_serial.specs.MachineState.{MachineState}
 use Rattle.ht_causes.specs.declared.cause.LatchPlace.{LatchPlace}
 use Rattle.ht_causes.specs.declared.sightings.Sightings.{Sightings}
 use Rattle.ht_causes.specs.Firsts.{least_below}
@@ -46,13 +44,18 @@ with_carried vector value stuck kept = record kept {
   told = kept.told || is_told value;
 }
 
--- what a machine shows at output o in its last frame
-abbrev pub output_shown : MachineState Tern → ℕ → Tern
-output_shown m o = get_or m.outputs o Unk
+-- the line has carried a definite value, and the one opposite to the stuck bit
+pub record LineIsRead (kept : Sightings) : Type 0 where
+  pub excited : is_some kept.excited ≡ true
+  pub told : kept.told ≡ true
 
--- what it holds in flip-flop j
-abbrev pub latch_held : MachineState Tern → ℕ → Tern
-latch_held m j = get_or m.latches j Unk
+-- what is kept once a later frame is known, but for what the fault's line carries in it
+abbrev pub with_later : Sightings → Sightings → Sightings
+with_later frame kept = record kept {
+  detected = option_or kept.detected frame.detected;
+  possible = option_or kept.possible frame.possible;
+  stored = option_or kept.stored frame.stored;
+}
 
 -- The outputs below n of vector t were compared, which show these values in the good and in the faulty machine.
 pub record AreOutputsCompared (t n : ℕ) (good faulty : ℕ → Tern) (old new : Sightings)

@@ -7,13 +7,18 @@
 //! the table (`causes_only_move_up`).
 #![tactic(auto)]
 
+mod assign;
 mod cause;
 mod causes;
 mod causes_text;
 mod compare;
+mod lanes;
 mod line;
+mod run;
 mod sightings;
 mod theorems;
+mod track;
+mod words;
 
 pub use cause::{Cause, LatchPlace};
 pub use causes::find_causes;

@@ -1,8 +1,8 @@
 //! What is kept of a fault while vectors run, and how each value that is compared changes it.
-ghost use Rattle.std.specs.Prelude.{◌≡◌};
+ghost use Rattle.std.specs.Prelude.{◌≡◌, IsTrue};
 ghost use Rattle.ht_causes.specs.Compared.{are_unlike, are_unsure, is_told};
 ghost use Rattle.ht_causes.specs.Causes.{cause_row};
-ghost use Rattle.ht_causes.specs.Kept.{no_sightings, or_here, with_carried, with_latch_pair, with_output_pair};
+ghost use Rattle.ht_causes.specs.Kept.{LineIsRead, no_sightings, or_here, with_carried, with_later, with_latch_pair, with_output_pair};
 
 use crate::cause::{Cause, LatchPlace};
 use ht_net::Place;
@@ -89,6 +89,22 @@ impl Sightings {
     {
         self.excited = or_here(self.excited, is_opposite(value, Tern::from(stuck)), vector);
         self.told = self.told || is_told(value);
+    }
+
+    /// Whether what the line carries changes nothing more.
+    pub fn is_read(&self) -> bool
+        ensures { IsTrue result → LineIsRead self.now }
+    {
+        self.excited.is_some() && self.told
+    }
+
+    /// Adds what a later frame shows.
+    pub fn note_frame(&mut self, frame: &Sightings)
+        ensures { self.new ≡ with_later frame.now self.old }
+    {
+        self.detected = self.detected.or(frame.detected);
+        self.possible = self.possible.or(frame.possible);
+        self.stored = self.stored.or(frame.stored);
     }
 
     /// The cause that they say.
