@@ -1,27 +1,20 @@
 -- Which faults a list detects, by their first detections.
-use Rattle.std.proofs.Common.{◌≡◌, ◌<◌, ◌≤◌, ◌+◌, ◌^◌, ◌++◌, ◌∷◌, [], inl, inr, ℕ, List, Bool, true, false, length, get_or, map, take, Option, Some, None, sym, ◌∙◌, ap, subst, arith, length-append}
+use Rattle.std.proofs.Common.{◌≡◌, ◌<◌, ◌≤◌, ◌+◌, ◌^◌, ◌++◌, ◌∷◌, [], inl, inr, ℕ, List, Bool, true, false, length, get_or, Option, Some, None, sym, ◌∙◌, ap, subst, arith, length-append}
 use Rattle.std.specs.Prelude.{is_some}
-use Rattle.std.specs.List.{All, Contains, range_with_len, slice_get}
-use Rattle.std.specs.Option.{option_map}
+use Rattle.std.specs.List.{All, Contains, range_with_len}
 use Rattle.std.proofs.lemmas.Bool.{cases_eq}
-use Rattle.std.proofs.lemmas.List.{get_or_append_left, get_or_default, get_or-map, length-map, take_all, map-append}
-use Rattle.std.proofs.Math.Seq.{get_or-append_seam}
-use Rattle.std.proofs.lemmas.List.Elements.{All-from_get_or, All-push, All-weaker, filter_passes, Contains-append_left, Contains-get_or, Contains-push}
-use Rattle.std.proofs.lemmas.Option.{slice_get-map, slice_get-get_or}
-use Rattle.ht_net.specs.declared.fault.Fault.{Fault}
+use Rattle.std.proofs.lemmas.List.{get_or_default, map-append}
+use Rattle.std.proofs.lemmas.List.Elements.{All-push, All-weaker, filter_passes, Contains-append_left, Contains-push}
 use Rattle.ht_net.specs.declared.place.Place.{Place}
 use Rattle.ht_net.specs.Circuit.Netlist.{Netlist}
-use Rattle.ht_net.specs.Detect.Detection.{IsFirstDetection, IsFirstFrom, unknown_state}
-use Rattle.ht_net.proofs.FrameLaws.{le_or_lt}
+use Rattle.ht_net.specs.Detect.Detection.{IsFirstDetection, unknown_state}
 use Rattle.ht_faults.specs.Sites.{faults_of}
 use Rattle.ht_faults.specs.Classes.{AreClasses, fault_at, is_representative, own_representatives}
 use Rattle.ht_faults.proofs.OwnLaws.{own_is_fault, own_within, representative_is_own}
-use Rattle.ht_proofs.specs.PackedView.{PackedView, GraderStandsFor, chosen_faults, verdict_at}
 use Rattle.ht_proofs.specs.Detections.{place_at, AreFirstDetections}
 use Rattle.ht_compact.specs.declared.detected.DetectedFault.{DetectedFault}
-use Rattle.ht_compact.specs.Compacts.{IsDetectedBy, IsDetectedClass, AreDetectedClasses, DetectsEach, MissesOne}
-use Rattle.ht_compact.specs.DetectedFaults.{AreDetectedAt, AreDetectedBelow, AreDetectedFaults, HasRunWanted, IsDetectedFault, IsMissed, fault_numbers}
-use Rattle.ht_compact.proofs.FrontLaws.{detects_in_front, detected_in_more}
+use Rattle.ht_compact.specs.Compacts.{IsDetectedBy, IsDetectedClass, AreDetectedClasses}
+use Rattle.ht_compact.specs.DetectedFaults.{AreDetectedFaults, IsDetectedFault, fault_numbers}
 
 -- a first detection is a detection, and where there is none the list detects nothing
 pub detected_first : (c : Netlist) (list : List (List Bool)) (i : ℕ) (place : Option Place) → is_some place ≡ true
@@ -35,128 +28,6 @@ pub undetected_first : (c : Netlist) (list : List (List Bool)) (i : ℕ) (place 
     → is_some place ≡ false → IsFirstDetection c (fault_at c i) list place → ¬ IsDetectedBy c list i
 undetected_first c list i None none first is = first is.vector is.output is.detects
 undetected_first c list i (Some p) none first is = cc
-
--- The verdict of a packed grader on the k-th of its faults is its first detection.
-pub chosen_first : (c : Netlist) (wanted : List ℕ) (list : List (List Bool)) (grader : PackedView) (k : ℕ)
-    → grader.circuit ≡ c → grader.faults ≡ chosen_faults (faults_of c) wanted → k < length wanted
-    → GraderStandsFor grader (unknown_state c) list
-    → IsFirstDetection c (fault_at c (get_or wanted k 0)) list (verdict_at grader k)
-chosen_first c wanted list grader k circuit faults inside stands =
-    subst (λ (n : Netlist). IsFirstFrom n (fault_at c (get_or wanted k 0)) (unknown_state c) list (verdict_at grader k))
-    circuit
-    (stands.first k (fault_at c (get_or wanted k 0)) (ap (λ (l : List Fault). slice_get l k) faults
-    ∙ (slice_get-map (fault_at c) wanted k ∙ ap (option_map (fault_at c)) (slice_get-get_or wanted k 0 inside))))
-
--- The first faults, as many as a grader has seen, are detected by the first t vectors.
-pub record AreSeenSoFar (c : Netlist) (wanted : List ℕ) (list : List (List Bool)) (t seen : ℕ) : Type 0 where
-  pub some : seen ≤ length wanted
-  pub detected : (k d : ℕ) → k < seen → IsDetectedBy c (take t list) (get_or wanted k d)
-
--- one vector more
-pub more_seen : (c : Netlist) (wanted : List ℕ) (list : List (List Bool)) (t seen more : ℕ) (grader : PackedView)
-    → AreSeenSoFar c wanted list t seen → grader.circuit ≡ c → grader.faults ≡ chosen_faults (faults_of c) wanted
-    → GraderStandsFor grader (unknown_state c) (take (t + 1) list) → more ≤ length wanted
-    → ((k : ℕ) → seen ≤ k → k < more → is_some (verdict_at grader k) ≡ true)
-    → AreSeenSoFar c wanted list (t + 1) more
-more_seen c wanted list t seen more grader so_far circuit faults stands some found = record {
-  some = some;
-  detected = λ k d less. elim (le_or_lt seen k) [
-    | inl from ↦
-        let inside : k < length wanted = omega (arith, less, some) in
-        subst (IsDetectedBy c (take (t + 1) list)) (get_or_default wanted k 0 d inside)
-        (detected_first c (take (t + 1) list) (get_or wanted k 0) (verdict_at grader k) (found k from less)
-        (chosen_first c wanted (take (t + 1) list) grader k circuit faults inside stands))
-    | inr before ↦
-        detected_in_more c list t (t + 1) (get_or wanted k d) (omega arith) (so_far.detected k d before)
-  ];
-}
-
--- a grader that has applied all vectors, or has seen all faults
-pub run_to_end : (c : Netlist) (wanted : List ℕ) (list : List (List Bool)) (t : ℕ) (grader : PackedView)
-    → grader.circuit ≡ c → grader.faults ≡ chosen_faults (faults_of c) wanted
-    → GraderStandsFor grader (unknown_state c) (take t list) → length list ≤ t → HasRunWanted c wanted list grader
-run_to_end c wanted list t grader circuit faults stands done = record {
-  count = t;
-  stands = stands;
-  missed = λ k inside none.
-      subst (λ (l : List (List Bool)). ¬ IsDetectedBy c l (get_or wanted k 0)) (take_all t list done)
-      (undetected_first c (take t list) (get_or wanted k 0) (verdict_at grader k)
-      (ap (λ (p : Option Place). is_some p) none)
-      (chosen_first c wanted (take t list) grader k circuit faults inside stands));
-}
-
--- a grader that has detected all wanted faults has missed none that the list detects
-pub run_to_last : (c : Netlist) (wanted : List ℕ) (list : List (List Bool)) (t seen : ℕ) (grader : PackedView)
-    → AreSeenSoFar c wanted list t seen → grader.circuit ≡ c → grader.faults ≡ chosen_faults (faults_of c) wanted
-    → GraderStandsFor grader (unknown_state c) (take t list) → seen ≡ length wanted → HasRunWanted c wanted list grader
-run_to_last c wanted list t seen grader so_far circuit faults stands all = record {
-  count = t;
-  stands = stands;
-  missed = λ k inside none.
-      absurd (undetected_first c (take t list) (get_or wanted k 0) (verdict_at grader k)
-      (ap (λ (p : Option Place). is_some p) none)
-      (chosen_first c wanted (take t list) grader k circuit faults inside stands)
-      (so_far.detected k 0 (omega (arith, inside, all))));
-}
-
--- ---- fault by fault
-
--- a first detection in the first vectors
-detected_there : (c : Netlist) (fault : ℕ) (list : List (List Bool)) (n : ℕ) (place : Place) (verdict : Option Place)
-    → verdict ≡ Some place → IsFirstDetection c (fault_at c fault) (take n list) verdict
-    → IsDetectedFault c list (record { fault = fault; vector = place.vector })
-detected_there c fault list n place verdict is first = record {
-  output = place.output;
-  detects =
-      detects_in_front c (fault_at c fault) list n place.vector place.output
-      (subst (IsFirstDetection c (fault_at c fault) (take n list)) is first).0;
-}
-
--- one fault more
-pub one_detected : (c : Netlist) (wanted : List ℕ) (list : List (List Bool)) (k : ℕ) (found more : List ℕ)
-    (grader : PackedView) (place : Place) → HasRunWanted c wanted list grader → grader.circuit ≡ c
-    → grader.faults ≡ chosen_faults (faults_of c) wanted → AreDetectedBelow c list wanted found k → k < length wanted
-    → verdict_at grader k ≡ Some place → more ≡ found ++ place.vector ∷ [] → AreDetectedBelow c list wanted more (k + 1)
-one_detected c wanted list k found more grader place run circuit faults so_far inside is pushed =
-    let At : ℕ → ℕ → Type 0 = λ j v. IsDetectedFault c list (record { fault = get_or wanted j 0; vector = v }) in
-    let last : get_or (found ++ place.vector ∷ []) k 0 ≡ place.vector =
-    ap (λ (j : ℕ). get_or (found ++ place.vector ∷ []) j 0) (sym so_far.every)
-    ∙ get_or-append_seam found place.vector [] 0 in
-    let here : At k place.vector =
-    detected_there c (get_or wanted k 0) list run.count place (verdict_at grader k) is
-    (chosen_first c wanted (take run.count list) grader k circuit faults inside run.stands) in
-    subst (λ (l : List ℕ). AreDetectedBelow c list wanted l (k + 1)) (sym pushed) (record {
-      every = omega (arith, length-append found (place.vector ∷ []), so_far.every);
-      each = λ j less. elim (cases_eq j k) [
-        | inl same ↦
-            subst (λ (i : ℕ). At i (get_or (found ++ place.vector ∷ []) i 0)) (sym same) (subst (At k) (sym last) here)
-        | inr other ↦
-            let before : j < k = omega (arith, less, other) in
-            subst (At j) (sym (get_or_append_left found (place.vector ∷ []) 0 j (omega (arith, before, so_far.every))))
-            (so_far.each j before)
-      ];
-    })
-
--- a fault that the grader has missed
-pub one_missed : (c : Netlist) (wanted : List ℕ) (list : List (List Bool)) (k : ℕ) (grader : PackedView)
-    → HasRunWanted c wanted list grader → k < length wanted → verdict_at grader k ≡ None → IsMissed c wanted list k
-one_missed c wanted list k grader run inside none =
-    record { inside = inside; undetected = run.missed k inside none }
-
--- a fault that is missed is one of these
-pub misses_one : (c : Netlist) (wanted : List ℕ) (list : List (List Bool)) (k : ℕ) → IsMissed c wanted list k
-    → MissesOne c wanted list
-misses_one c wanted list k is = record {
-  missed = get_or wanted k 0;
-  is_wanted = Contains-get_or wanted k 0 is.inside;
-  undetected = is.undetected;
-}
-
--- what stands with a vector that detects it is detected
-pub each_detected : (c : Netlist) (list : List (List Bool)) (wanted at : List ℕ) → AreDetectedAt c list wanted at
-    → DetectsEach c wanted list
-each_detected c list wanted at are = All-from_get_or (IsDetectedBy c list) wanted 0 (λ k inside.
-    let is = are.each k inside in record { vector = get_or at k 0; output = is.output; detects = is.detects })
 
 -- ---- class by class
 
@@ -286,22 +157,3 @@ all_known c representatives list k detected so_far few = record {
       (fault_numbers detected) so_far.sound;
   few = omega (arith, few, so_far.few, so_far.some, own_within representatives);
 }
-
--- the faults and their vectors by themselves
-pub detected_apart : (c : Netlist) (list : List (List Bool)) (detected : List DetectedFault) (wanted at : List ℕ)
-    → AreDetectedFaults c list detected → wanted ≡ fault_numbers detected
-    → at ≡ map (λ (one : DetectedFault). one.vector) detected → AreDetectedAt c list wanted at
-detected_apart c list detected wanted at are wanted_is at_is =
-    let none : DetectedFault = record { fault = 0; vector = 0 } in
-    let fault = λ (one : DetectedFault). one.fault in
-    let vector = λ (one : DetectedFault). one.vector in
-    subst (λ (l : List ℕ). AreDetectedAt c list l at) (sym wanted_is)
-    (subst (AreDetectedAt c list (fault_numbers detected)) (sym at_is) (record {
-      every = omega (arith, length-map detected vector, length-map detected fault);
-      each = λ k inside.
-          let less : k < length detected = omega (arith, inside, length-map detected fault) in
-          subst (λ (i : ℕ). IsDetectedFault c list (record { fault = i; vector = get_or (map vector detected) k 0 }))
-          (sym (get_or-map fault detected k none 0 less))
-          (subst (λ (v : ℕ). IsDetectedFault c list (record { fault = (get_or detected k none).fault; vector = v }))
-          (sym (get_or-map vector detected k none 0 less)) (are.each k none less));
-    }))

@@ -1,5 +1,5 @@
 -- Rounds that leave out runs: what they keep, and that the last one has tried each run.
-use Rattle.std.proofs.Common.{◌≡◌, ◌<◌, ◌≤◌, ◌+◌, ◌-◌, [], ◌∷◌, inl, inr, ℕ, zero, suc, List, Bool, true, false, cond, eqb, length, max, min, refl, sym, ◌∙◌, ap, subst, arith}
+use Rattle.std.proofs.Common.{◌≡◌, ◌≤◌, ◌+◌, ◌-◌, [], ◌∷◌, inl, inr, ℕ, zero, suc, List, Bool, true, false, cond, eqb, length, max, min, refl, sym, ◌∙◌, ap, subst, arith}
 use Rattle.std.proofs.lemmas.Bool.{cases_eq, eqb-true, eqb-false, eq-eqb, ne_eqb}
 use Rattle.ht_compact.specs.Kept.{LeavesOut, without_run}
 use Rattle.ht_compact.specs.Rounds.{longest_run, round_from, round_of, rounds_of, rounds_within}

@@ -1,5 +1,5 @@
 -- Whether a list serves: the tests by which compaction is defined say what the facts say.
-use Rattle.std.proofs.Common.{◌≡◌, ◌<◌, ◌≤◌, ◌+◌, ◌∷◌, [], inl, inr, ℕ, zero, suc, List, Bool, true, false, cond, length, get_or, Option, Some, None, refl, sym, ◌∙◌, ap, subst, arith}
+use Rattle.std.proofs.Common.{◌≡◌, ◌<◌, ◌+◌, ◌∷◌, [], ℕ, zero, suc, List, Bool, true, false, cond, length, get_or, Some, None, refl, sym, ◌∙◌, ap, subst, arith}
 use Rattle.std.specs.Prelude.{◌&&◌}
 use Rattle.std.specs.List.{All, Contains, filter, list_all, list_any, range_with_len}
 use Rattle.std.proofs.Math.Path.{fun_ext}
@@ -17,7 +17,7 @@ use Rattle.ht_faults.specs.Classes.{fault_at, is_representative}
 use Rattle.ht_compact.specs.Kept.{without_run}
 use Rattle.ht_compact.specs.Rounds.{rounds_of}
 use Rattle.ht_compact.specs.Compacts.{AreDetectedClasses, CompactsRuns, DetectsEach, IsDetectedBy, IsDetectedClass, MissesOne, compaction_of, detected_classes_of, is_detected_by, serves}
-use Rattle.ht_compact.proofs.RoundLaws.{IsTriedThrough, rounds_tried}
+use Rattle.ht_compact.proofs.RoundLaws.{rounds_tried}
 
 -- ---- lists
 

@@ -1,5 +1,5 @@
 -- Rounds that leave out runs of items of a list, as long as the list passes a test.
-use Rattle.std.specs.Prelude.{◌+◌, ◌-◌, ◌==◌, ℕ, zero, suc, List, Bool, length, min, if◌then◌else◌}
+use Rattle.std.specs.Prelude.{◌-◌, ◌==◌, ℕ, zero, suc, List, Bool, length, min, if◌then◌else◌}
 use Rattle.ht_compact.specs.Kept.{without_run}
 
 -- How many items before place e are left out, of at most n: the most without which the list passes, or 0 where there is

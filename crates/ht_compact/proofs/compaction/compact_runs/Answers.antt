@@ -76,6 +76,7 @@ loop-recent-preserved c =
     subst (λ (l : List ℕ). after ≡ round_of (serves circuit l) most before) c.loop-recent.invariant.wanted
     c.in_ok-leave_out.ensures.round in
     record {
+      circuit = c.in_ok-leave_out.ensures.circuit;
       graded = c.in_ok-leave_out.ensures.graded;
       wanted = c.in_ok-leave_out.ensures.wanted ∙ c.loop-recent.invariant.wanted;
       rounds = c.loop-recent.invariant.rounds

@@ -1,4 +1,4 @@
-use Rattle.std.proofs.Common.{◌≡◌, ◌-◌, ℕ, true, false, sym, ◌∙◌, ap, subst, arith}
+use Rattle.std.proofs.Common.{◌≡◌, ◌-◌, ℕ, sym, ◌∙◌, ap, subst, arith}
 use Rattle.ht_compact.specs.declared.graded.GradedVectors.{GradedVectors}
 use Rattle.ht_compact.specs.Kept.{without_run}
 use Rattle.ht_compact.specs.Rounds.{longest_run}
@@ -15,13 +15,13 @@ returns-then-branch-clause-count c =
     let given = c.args.kept.now in
     let count = c.loop-count.count in
     let end = c.args.end in
-    let without : IsGradedWithout circuit given (end - count) end c.leave_out_run.new.graded =
-    subst (λ (g : GradedVectors). IsGradedWithout circuit g (end - count) end c.leave_out_run.new.graded)
-    c.loop-count.invariant.same (c.in_ok-leave_out_run.ensures.left_out c.if-branch.true) in
+    let without : IsGradedWithout circuit given (end - count) end c.leave_out_part.new.graded =
+    subst (λ (g : GradedVectors). IsGradedWithout circuit g (end - count) end c.leave_out_part.new.graded)
+    c.loop-count.invariant.same (c.in_ok-leave_out_part.ensures.left_out c.if-branch.true) in
     sym (c.loop-count.invariant.longest
     ∙ longest_here (serves circuit given.wanted.items) given.vectors.list end count
     (omega (arith, c.loop-count-test.true))
-    (without_serves circuit given c.leave_out_run.new.graded (end - count) end without))
+    (without_serves circuit given c.leave_out_part.new.graded (end - count) end without))
 
 pub loop-count-preserved : goal.loop-count-preserved
 loop-count-preserved c =
@@ -31,9 +31,10 @@ loop-count-preserved c =
     let end = c.args.end in
     let misses : MissesOne circuit given.wanted.items (without_run given.vectors.list (end - count) end) =
     subst (λ (g : GradedVectors). MissesOne circuit g.wanted.items (without_run g.vectors.list (end - count) end))
-    c.loop-count.invariant.same (c.in_ok-leave_out_run.ensures.lost c.if-branch.false) in
+    c.loop-count.invariant.same (c.in_ok-leave_out_part.ensures.lost c.if-branch.false) in
     record {
-      same = c.in_ok-leave_out_run.ensures.same c.if-branch.false ∙ c.loop-count.invariant.same;
+      circuit = c.in_ok-leave_out_part.ensures.circuit;
+      same = c.in_ok-leave_out_part.ensures.same c.if-branch.false ∙ c.loop-count.invariant.same;
       within = omega (arith, c.loop-count.invariant.within);
       longest = c.loop-count.invariant.longest
           ∙ longest_less (serves circuit given.wanted.items) given.vectors.list end count

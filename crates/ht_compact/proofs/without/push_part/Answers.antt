@@ -1,4 +1,4 @@
-use Rattle.std.proofs.Common.{◌≡◌, ◌-◌, ◌++◌, [], ◌∷◌, ℕ, List, Bool, take, drop, sym, ◌∙◌, ap, arith, append_assoc}
+use Rattle.std.proofs.Common.{◌-◌, ◌++◌, [], ◌∷◌, List, Bool, take, drop, sym, ◌∙◌, ap, arith, append_assoc}
 use Rattle.ht_net.specs.Frames.Rows.{Rows}
 use Rattle.ht_compact.proofs.WithoutLaws.{part_more}
 use Rattle.ht_compact.proofs.without.push_part.Goals as goal
