@@ -1,18 +1,39 @@
-"""The model checker ABC and the SAT solver CaDiCaL, as tools/close asks them. What they say is taken as a hint, never as true.
+"""The engines that tools/close asks: ht_closer, the model checker ABC and the SAT solver CaDiCaL. What they say is taken as a
+hint, never as true.
 
-ABC gets the two machines of a fault side by side (tools/lib/miter.py). It finds frames in which the output is 1, or cubes of
+ht_closer, the engine of this project (crates/ht_closer), gets a netlist and a list of faults, and writes vectors and entries. ABC
+gets the two machines of a fault side by side (tools/lib/miter.py). It finds frames in which the output is 1, or cubes of
 latches, none of which ever comes about, so that the output is never 1. CaDiCaL gets clauses and finds lemmas that end with a
-contradiction, or a solution. Each works for some seconds of a processor, and is ended where it takes more.
+contradiction, or a solution. Each works for some seconds of a processor, ht_closer for so many propagations, and is ended where
+it takes more.
 """
 import resource
+import shutil
+import signal
 import subprocess
+from typing import NamedTuple
 
-ABC, CADICAL = "berkeley-abc", "cadical"
+CLOSER, ABC, CADICAL = "ht_closer", "berkeley-abc", "cadical"
 # the Debian package of each command
 PACKAGES = {ABC: "berkeley-abc", CADICAL: "cadical", "make": "make"}
 # an engine looks at the time now and then only; these seconds later it is ended
 SLACK = 5
+# what ht_closer does in a second at least, on the slowest machine that is thought of
+PROPAGATIONS = 1_000_000
 NO_SOLUTION = 20
+
+
+class Unreadable(Exception):
+    """An answer of an engine that has no meaning."""
+
+
+def lacks(command):
+    return shutil.which(command) is None
+
+
+def at_hand(options):
+    """The limit of ht_closer and the seconds of the others; 0 where they aren't there."""
+    return options.limit if options.engine else 0, 0 if lacks(ABC) or lacks(CADICAL) else options.seconds
 
 
 def run(command, seconds, folder):
@@ -28,6 +49,39 @@ def run(command, seconds, folder):
     )
 
 
+# ---- ht_closer
+
+
+class Closed(NamedTuple):
+    """What ht_closer finds for some faults: a text of vectors and one of proofs; or else what is wrong with it."""
+
+    numbers: list
+    tests: bytes = b""
+    proofs: bytes = b""
+    trouble: str = ""
+
+
+def closed(program, folder, netlist, numbers, limit, start):
+    """What ht_closer finds for faults. It writes that at its end; so where it ends with an error, it is asked again about each
+    half of the faults, until one alone is without an answer."""
+    (folder / "faults").write_text("".join(f"{number}\n" for number in numbers))
+    made = [folder / "found.tests", folder / "found.proofs"]
+    for file in made:
+        file.unlink(missing_ok=True)
+    ended = run([program, netlist, "faults", str(limit), *made, *start], len(numbers) * (1 + limit // PROPAGATIONS), folder)
+    if ended.returncode == 0 and all(file.is_file() for file in made):
+        yield Closed(numbers, *(file.read_bytes() for file in made))
+    elif len(numbers) == 1 or ended.returncode in (0, -signal.SIGXCPU):
+        said = ended.stderr.strip().splitlines() or [f"status {ended.returncode}"]
+        yield Closed(numbers, trouble=f"{CLOSER}: {said[-1]}")
+    else:
+        for half in numbers[: len(numbers) // 2], numbers[len(numbers) // 2 :]:
+            yield from closed(program, folder, netlist, half, limit, start)
+
+
+# ---- ABC
+
+
 def proves(folder, command, seconds):
     """Whether ABC proves by a command that the output of the circuit in a folder is never 1. Else it may leave a trace."""
     (folder / "trace").unlink(missing_ok=True)
@@ -41,8 +95,8 @@ def frames_of(folder, inputs):
     if not path.exists():
         return []
     # the first line has what the latches hold
-    lines = path.read_text().replace("# DONE", "").split("\n")[1:]
-    return [[int(bit) for bit in line.strip()] for line in lines if len(line.strip()) == inputs]
+    lines = path.read_text(errors="replace").replace("# DONE", "").split("\n")[1:]
+    return [[int(bit) for bit in line.strip()] for line in lines if len(line.strip()) == inputs and set(line.strip()) <= {"0", "1"}]
 
 
 def bounded(folder, text, inputs, seconds):
@@ -60,12 +114,21 @@ def invariant(folder, text, seconds):
     if not proves(folder, "pdr -d -I cubes", seconds):
         return None
     latches, cubes = [], []
-    for line in (folder / "cubes").read_text().splitlines() if (folder / "cubes").exists() else []:
+    for line in (folder / "cubes").read_text(errors="replace").splitlines() if (folder / "cubes").exists() else []:
         if line.startswith(".ilb "):
-            latches = [int(word.removeprefix("lo")) for word in line.split()[1:]]
+            latches = [number_in(word.removeprefix("lo")) for word in line.split()[1:]]
         elif line[:1] in ("0", "1", "-"):
             cubes.append([latch for latch, held in zip(latches, line.split()[0]) if held == "1"])
     return cubes
+
+
+def number_in(word):
+    if not word.removeprefix("-").isdecimal():
+        raise Unreadable(f"{word} is no number")
+    return int(word)
+
+
+# ---- CaDiCaL
 
 
 def lemmas(folder, variables, clauses, seconds):
@@ -75,6 +138,9 @@ def lemmas(folder, variables, clauses, seconds):
     words = [CADICAL, "-q", "--no-binary", "clauses", "lemmas"]
     if run(words, seconds, folder).returncode != NO_SOLUTION:
         return None
-    proof = (folder / "lemmas").read_text().splitlines()
+    proof = (folder / "lemmas").read_text(errors="replace").splitlines()
     # what CaDiCaL deletes stays here
-    return [[int(word) for word in line.split()[:-1]] for line in proof if line[:1] not in ("c", "d", "")]
+    found = [list(map(number_in, line.split()[:-1])) for line in proof if line[:1] not in ("c", "d", "")]
+    if any(not 0 < abs(literal) <= variables for lemma in found for literal in lemma):
+        raise Unreadable("a lemma has another variable")
+    return found
