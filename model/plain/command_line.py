@@ -3,9 +3,9 @@
 
 USAGE = b"""usage: sim NETLIST TESTS REPORT [--start FILE], \
 gen NETLIST TESTS REPORT PROOFS [--budget N] [--random N] [--seed S] [--start FILE] [--first FILE] [--faults FILE] \
-[--weighted N] [--search plain|deep], \
+[--weighted N] [--search plain|deep|full] [--work N], \
 check NETLIST TESTS REPORT PROOFS [--start FILE], norm NETLIST OUT, demo SIZE SEED, \
-compact NETLIST TESTS OUT, diagnose NETLIST TESTS RESPONSES OUT, \
+compact NETLIST TESTS OUT [--runs N], diagnose NETLIST TESTS RESPONSES OUT, \
 uninit NETLIST OUT [--budget N], sync NETLIST TESTS OUT [--budget N], \
 respond NETLIST TESTS OUT [--fault N] [--start FILE] [--lines], \
 report NETLIST TESTS PROOFS REPORT [--budget N] [--start FILE], \

@@ -19,7 +19,9 @@ use Rattle.ht_net.specs.Circuit.Netlist as net
 use Rattle.ht_texts.specs.SearchReports.{HasPlainNames}
 use Rattle.ht_entries.specs.declared.proof_line.ProofLine.TheVariants.{End}
 use Rattle.ht_files.proofs.StepTextLaws.{proofs_end}
-use Rattle.ht_app.specs.Outputs.{WritesFiles, WritesSteps, creation, settings_of, where_named}
+use Rattle.ht_app.specs.Generating.{WritesTo}
+use Rattle.ht_engine.specs.Steps as made_steps
+use Rattle.ht_app.specs.Outputs.{AreGenerated, WritesFiles, WritesSteps, creation, settings_of, where_named}
 use Rattle.ht_app.proofs.EndLaws.{begun, ends_tries}
 use Rattle.ht_app.proofs.WritingLaws.{permits_then, tries_then}
 
@@ -35,28 +37,19 @@ end_text = with_lf (line_text End)
 abbrev pub end_part : List ℕ → List ℕ → List Act
 end_part body total = put Proofs end_text ∷ put Report body ∷ put Out total ∷ ending Report total
 
-module _ (files : RunFiles) (c : net.Netlist) (settings : Settings) {representatives : List ℕ}
-    (classes : AreClasses c representatives) {steps : List Step}
-    (are : AreSteps c representatives settings steps) where
-  steps_written : WritesSteps files c settings (begun_acts files settings steps)
-  steps_written = record {
-    representatives = representatives;
-    steps = steps;
-    classes = classes;
-    steps_are = are;
-    acts_are = refl;
-  }
+module _ (files : RunFiles) (settings : Settings) (AreSo : List Step → Type 0)
+    (IsLast : List Step → List ℕ → List ℕ → Type 0) {steps : List Step} (are : AreSo steps) where
+  steps_written : WritesSteps files settings AreSo (begun_acts files settings steps)
+  steps_written = record { steps = steps; steps_are = are; acts_are = refl }
 
   -- if the acts up to the last step stop by an error, so do the files
   pub stops_in_steps : {e : RunError} {a b : DeskView} → Tries {A = Unit {0}} (begun_acts files settings steps)
-      (Err e) a b
-      → WritesAll files c settings (Err e) a b
+      (Err e) a b → WritesAll files settings AreSo IsLast (Err e) a b
   stops_in_steps tries =
       record { acts = begun_acts files settings steps; tries = tries; done = tt; stopped = inl steps_written }
 
-  module _ (body total : List ℕ)
-      (generated : IsGenerated c settings (tests_of steps) (body ++ total) (proofs_of settings steps) total) where
-    all_written : WritesFiles files c settings (begun_acts files settings steps ++ end_part body total)
+  module _ (body total : List ℕ) (finished : IsLast steps (body ++ total) total) where
+    all_written : WritesFiles files settings AreSo IsLast (begun_acts files settings steps ++ end_part body total)
     unfolding steps_written
     all_written = record {
       first = begun_acts files settings steps;
@@ -64,13 +57,13 @@ module _ (files : RunFiles) (c : net.Netlist) (settings : Settings) {representat
       body = body;
       total = total;
       acts_are = refl;
-      generated = generated;
+      finished = finished;
     }
 
     -- once all steps are written, the files end as the end line, the report and the total line do
     pub ends_after : {a m b : DeskView} (result : Result (Unit {0}) RunError)
         → Tries {A = Unit {0}} (begun_acts files settings steps) (Ok tt) a m → Does (end_part body total) result m b
-        → WritesAll files c settings result a b
+        → WritesAll files settings AreSo IsLast result a b
     ends_after (Ok value) first does = record {
       acts = begun_acts files settings steps ++ end_part body total;
       tries = tries_then first does.tries;
@@ -83,6 +76,12 @@ module _ (files : RunFiles) (c : net.Netlist) (settings : Settings) {representat
       done = tt;
       stopped = inr (does.only, all_written);
     }
+
+-- no steps are those of a generator
+pub no_steps : {c : net.Netlist} {settings : Settings} {representatives : List ℕ} → AreClasses c representatives
+    → AreGenerated c settings []
+no_steps {representatives = representatives} classes =
+    record { representatives = representatives; classes = classes; steps_are = made_steps.none }
 
 -- ---- what the engine's steps and the report say
 
@@ -147,8 +146,8 @@ module _ (ports : Ports) (tests : ports.writes Tests ≡ true) (proofs : ports.w
       (steps_permitted (before ++ step_acts step) (made_still Tests before (step_acts step) of_tests)
       (made_still Proofs before (step_acts step) of_proofs) steps)
 
-  begun_permitted : {files : RunFiles} {c : net.Netlist} {settings : Settings} {acts : List Act}
-      → PermitsAll ports [] (begun_acts files settings []) → WritesSteps files c settings acts
+  begun_permitted : {files : RunFiles} {settings : Settings} {AreSo : List Step → Type 0} {acts : List Act}
+      → PermitsAll ports [] (begun_acts files settings []) → WritesSteps files settings AreSo acts
       → PermitsAll ports [] acts
   begun_permitted {files = files} {settings = settings} first w = subst (PermitsAll ports []) (sym w.acts_are)
       (permits_then ports [] (begun_acts files settings []) (flat_map step_acts w.steps) first
@@ -160,13 +159,13 @@ module _ (files : RunFiles) (options : GenOptions) where
   abbrev job : Asked
   job = asked_by (job_of.Gen files options)
 
-  steps_may : {settings : Settings} {c : net.Netlist} {acts : List Act} → WritesSteps files c settings acts
-      → PermitsAll (writing job) [] acts
+  steps_may : {settings : Settings} {AreSo : List Step → Type 0} {acts : List Act}
+      → WritesSteps files settings AreSo acts → PermitsAll (writing job) [] acts
   steps_may w = begun_permitted (writing job) refl refl
       ((refl, refl), ((refl, refl), ((refl, refl), ((refl, λ file. refl), tt)))) w
 
-  files_may : {settings : Settings} {c : net.Netlist} {acts : List Act} → WritesFiles files c settings acts
-      → PermitsAll (writing job) [] acts
+  files_may : {settings : Settings} {AreSo : List Step → Type 0} {IsLast : List Step → List ℕ → List ℕ → Type 0}
+      {acts : List Act} → WritesFiles files settings AreSo IsLast acts → PermitsAll (writing job) [] acts
   files_may w = subst (PermitsAll (writing job) []) (sym w.acts_are)
       (permits_then (writing job) [] w.first (end_part w.body w.total) (steps_may w.begun)
       (subst (λ (l : List Act). PermitsAll (writing job) l (end_part w.body w.total)) (sym w.begun.acts_are)
@@ -175,7 +174,7 @@ module _ (files : RunFiles) (options : GenOptions) where
   -- `gen` ends as its files do, once its inputs are accepted
   pub ends_files : {basis : JobBasis} {a m b : DeskView} → ChangedOnly (reading job) a m → AcceptsInputs job basis a
       → (result : Result (Unit {0}) RunError)
-      → WritesAll files basis.circuit (settings_of basis job) result m b
+      → WritesTo options.depth options.work files basis.circuit (settings_of basis job) result m b
       → EndsJob job result a b
   ends_files x inputs (Ok value) w =
       ends_tries job x inputs w.acts (Ok value) w.tries (files_may w.done) (files, refl, w.done) tt

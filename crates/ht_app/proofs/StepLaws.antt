@@ -17,7 +17,7 @@ use Rattle.ht_files.specs.StepTexts.{proofs_step, step_text, tests_step}
 use Rattle.ht_files.proofs.StepTextLaws.{proofs_grow, tests_grow}
 use Rattle.ht_files.specs.declared.text_size.TextSize.{TextSize}
 use Rattle.ht_inputs.specs.declared.run_error.RunError.TheVariants.{NoMemory}
-use Rattle.ht_app.specs.Generating.{CountsStep}
+use Rattle.ht_app.specs.Generating.{Adds, AreSizesOf, CountsStep}
 use Rattle.ht_app.proofs.WritingLaws.{runs_out_first, tries_then}
 
 -- ---- where the text of a step goes
@@ -126,18 +126,25 @@ counted_more : (bytes more all : List ℕ) (old new : ℕ) → all ≡ bytes ++ 
 counted_more bytes more all old new is before counts =
     omega (arith, counts, before, ap length is, length-append bytes more)
 
+-- the sizes with one step more
+pub counted_step : {settings : Settings} {steps : List Step} {step : Step} {before after : Sizes}
+    → AreSizesOf settings steps before → CountsStep step before after
+    → AreSizesOf settings (steps ++ step ∷ []) after
+counted_step {settings = settings} {steps = steps} {step = step} are counts = record {
+  tests = counted_more (tests_of steps) (tests_step step) _ _ _ (tests_grow steps step) are.tests counts.tests;
+  proofs = counted_more (proofs_so_far settings steps) (proofs_step step) _ _ _ (proofs_grow settings steps step)
+      are.proofs counts.proofs;
+  short = counts.short are.short;
+}
+
 module _ {A : Type 0} {steps : List Step} {old new : EngineView} {step : Step} {before : Sizes} (after : Sizes)
     (stands : StandsAt steps old before) (same : HasSameWork old new) (made : MakesStep old new steps step) where
   stands_later : (result : Result A RunError) → OnOk result (CountsStep step before after)
       → OnOk result (StandsAt (steps ++ step ∷ []) new after)
   stands_later (Ok value) counts = record {
     engine = made.stands;
-    tests = counted_more (tests_of steps) (tests_step step) _ _ _ (tests_grow steps step) stands.tests counts.tests;
-    proofs = subst (λ (s : Settings). after.proofs.bytes ≡ length (proofs_so_far s (steps ++ step ∷ [])))
-        (sym same.settings)
-        (counted_more (proofs_so_far old.settings steps) (proofs_step step) _ _ _
-        (proofs_grow old.settings steps step) stands.proofs counts.proofs);
-    short = counts.short stands.short;
+    counted = subst (λ (s : Settings). AreSizesOf s (steps ++ step ∷ []) after) (sym same.settings)
+        (counted_step stands.counted counts);
   }
   stands_later (Err error) counts = tt
 
@@ -152,15 +159,22 @@ module _ {A : Type 0} {steps : List Step} {old new : EngineView} {step : Step} {
     finished = λ end. absurd (never end);
   }
 
+-- the sizes with the end, which adds nothing
+counted_nothing : {settings : Settings} {steps : List Step} {before after : Sizes} → AreSizesOf settings steps before
+    → CountsStep Finished before after → AreSizesOf settings steps after
+counted_nothing are counts = record {
+  tests = omega (arith, are.tests, counts.tests);
+  proofs = omega (arith, are.proofs, counts.proofs);
+  short = counts.short are.short;
+}
+
 -- the end leaves the steps and their sizes
 stands_at_end : {steps : List Step} {old new : EngineView} {before after : Sizes} → StandsAt steps old before
     → HasSameWork old new → EngineStandsFor new steps → CountsStep Finished before after → StandsAt steps new after
-stands_at_end {steps = steps} {after = after} stands same engine counts = record {
+stands_at_end {steps = steps} {old = old} {after = after} stands same engine counts = record {
   engine = engine;
-  tests = omega (arith, stands.tests, counts.tests);
-  proofs = subst (λ (s : Settings). after.proofs.bytes ≡ length (proofs_so_far s steps)) (sym same.settings)
-      (omega (arith, stands.proofs, counts.proofs));
-  short = counts.short stands.short;
+  counted = subst (λ (s : Settings). AreSizesOf s steps after) (sym same.settings)
+      (counted_nothing stands.counted counts);
 }
 
 -- a result that is true exactly where the step isn't the end isn't false at another step

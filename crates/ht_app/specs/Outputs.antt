@@ -1,5 +1,5 @@
 -- What each command does to its outputs.
-use Rattle.std.specs.Prelude.{◌≡◌, ◌-◌, ◌++◌, ◌∷◌, ℕ, List, [], flat_map, codes, Some, Option, None, Bool, true, false, length, option_map}
+use Rattle.std.specs.Prelude.{◌≡◌, ◌-◌, ◌*◌, ◌++◌, ◌∷◌, ℕ, List, [], flat_map, codes, Some, Option, None, Bool, true, false, length, option_map}
 use Rattle.ht_ports.specs.declared.ports.OutPort.{OutPort}
 use Rattle.ht_ports.specs.declared.ports.OutPort.TheVariants.{Tests, Report, Proofs, Out}
 use Rattle.ht_net.specs.Circuit.Netlist as net
@@ -16,16 +16,23 @@ use Rattle.ht_valid.specs.TrueVerdicts.{AreDecided, HaveTrueVerdicts, IsWorkedOn
 use Rattle.ht_demo.specs.Demo.{demo_netlist}
 use Rattle.ht_engine.specs.declared.step.Step.{Step}
 use Rattle.ht_engine.specs.declared.step.Step.TheVariants.{Vectors, Entry, Finished}
-use Rattle.ht_engine.specs.Steps.{AreSteps}
+use Rattle.ht_engine.specs.Marks.{AreMarks}
+use Rattle.ht_engine.specs.Steps.{AreSteps, entries_of, first_vectors, vectors_of_steps}
+use Rattle.ht_full.specs.Searches.{FullView, IsEnd, IsFullOf}
+use Rattle.ht_order.specs.declared.rate.TheConstants.{UNIT_OF_WORK}
+use Rattle.ht_verdicts.specs.Kept.{kept_entries}
 use Rattle.ht_engine.specs.declared.settings.Search.{Search}
-use Rattle.ht_engine.specs.declared.settings.Search.TheVariants.{Plain, Deep}
+use Rattle.ht_engine.specs.declared.settings.Search.TheVariants as engine
 use Rattle.ht_engine.specs.declared.settings.Settings.{Settings}
 use Rattle.ht_files.specs.Generated.{IsGenerated, IsTotalOf}
+use Rattle.ht_files.specs.Searched.{AreFound, IsSearched}
 use Rattle.ht_files.specs.StepTexts.{proofs_of, proofs_so_far, step_text, tests_of}
 use Rattle.ht_faults.specs.Sites.{faults_of}
 use Rattle.ht_uninit.specs.Records.{IsUninit, UninitHolds, UninitState}
 use Rattle.ht_uninit.specs.UninitTexts.{uninit_text, uninit_total}
 use Rattle.ht_asked.specs.Asked.{Asked}
+use Rattle.ht_asked.specs.declared.depth.Depth.{Depth}
+use Rattle.ht_asked.specs.declared.depth.Depth.TheVariants as depth
 use Rattle.ht_asked.specs.Table.{Kind}
 use Rattle.ht_asked.specs.Table.{sim, gen, check, norm, demo, compact, diagnose, uninit, sync, respond, report, breed, causes}
 use Rattle.ht_words.specs.Jobs.{made_by}
@@ -51,7 +58,7 @@ use Rattle.ht_bred.specs.declared.bred.Bred.{Bred}
 use Rattle.ht_causes.specs.declared.cause.Cause.{Cause}
 use Rattle.ht_causes.specs.Causes.{AreCauses}
 use Rattle.ht_causes.specs.CauseTexts.{causes_text, causes_total}
-use Rattle.ht_compact.specs.Compacts.{Compacts}
+use Rattle.ht_compact.specs.Compacts.{CompactsRuns, compaction_of}
 use Rattle.ht_compact.specs.CompactionText.{compaction_line}
 use Rattle.ht_tern.specs.declared.tern.Tern.{Tern}
 use Rattle.ht_dictionary.specs.Diagnoses.{Diagnoses}
@@ -124,10 +131,11 @@ abbrev pub where_named : {A : Type 0} → Option (List ℕ) → List A → List 
 where_named (Some name) said = said
 where_named None said = []
 
--- the kind of search, deep or not
-abbrev pub search_of : Bool → Search
-search_of true = Deep
-search_of false = Plain
+-- the kind of search of the engine, by how far the search goes: a full one writes proofs of the format of a deep one
+abbrev pub search_of : Depth → Search
+search_of depth.Plain = engine.Plain
+search_of depth.Deep = engine.Deep
+search_of depth.Full = engine.Deep
 
 -- what the options of `gen`, and the files that they name, tell the generator
 abbrev pub settings_of : JobBasis → Asked → Settings
@@ -136,7 +144,7 @@ settings_of basis job = record {
   random = job.numbers.random;
   seed = job.numbers.seed;
   weighted = job.numbers.weighted;
-  search = search_of job.numbers.deep;
+  search = search_of job.numbers.depth;
   start = basis.content.start;
   first = record {
     width = basis.circuit.inputs;
@@ -155,29 +163,74 @@ step_acts (Vectors list) = put Tests (step_text (Vectors list)) ∷ []
 step_acts (Entry fault entry) = put Proofs (step_text (Entry fault entry)) ∷ []
 step_acts Finished = []
 
--- The files are made, the proofs get their head line, and the steps of the generator are put one after the other.
-pub record WritesSteps (files : RunFiles) (c : net.Netlist) (settings : Settings)
-    (acts : List Act) : Type 0 where
+-- the steps are those of a generator, one after the other
+pub record AreGenerated (c : net.Netlist) (settings : Settings) (steps : List Step) : Type 0 where
   pub representatives : List ℕ
-  pub steps : List Step
   pub classes : AreClasses c representatives
   pub steps_are : AreSteps c representatives settings steps
+
+-- A full search of the circuit for the chosen faults, which was given the first vectors and so much work, ended with these
+-- steps: the work is
+-- spent, or no fault is open, or nothing is left to try.
+pub record EndsSearch (c : net.Netlist) (settings : Settings) (work : ℕ) (steps : List Step)
+    : Type 0 where
+  pub representatives : List ℕ
+  pub classes : AreClasses c representatives
+  pub marks : List Bool
+  pub marked : AreMarks representatives settings marks
+  pub at : FullView
+  pub is : IsFullOf c representatives settings.start (first_vectors c settings) marks
+      (work * UNIT_OF_WORK) at
+  pub vectors : vectors_of_steps steps ≡ at.known.vectors.list
+  pub entries : entries_of steps ≡ kept_entries at.known.verdicts
+  pub at_end : IsEnd at
+
+-- the texts of an engine's steps, the report and the total line are the files of a finished generator
+abbrev pub IsGeneratedOf : net.Netlist → Settings → List Step → List ℕ → List ℕ → Type 0
+IsGeneratedOf c settings steps text total =
+    IsGenerated c settings (tests_of steps) text (proofs_of settings steps) total
+
+-- which steps there are, by how far the search goes
+abbrev pub AreStepsTo : Depth → net.Netlist → Settings → List Step → Type 0
+AreStepsTo depth.Full = AreFound
+AreStepsTo other = AreGenerated
+
+-- so are those of a full search, which ended with these steps
+abbrev pub IsSearchedOf : ℕ → net.Netlist → Settings → List Step → List ℕ → List ℕ → Type 0
+IsSearchedOf work c settings steps text total =
+    IsSearched c settings (tests_of steps) text (proofs_of settings steps) total
+    × EndsSearch c settings work steps
+
+-- What the steps, the report and the total line are in the end, by how far the search goes.
+abbrev pub AreFilesTo : Depth → ℕ → net.Netlist → Settings → List Step → List ℕ → List ℕ → Type 0
+AreFilesTo depth.Full work c settings = IsSearchedOf work c settings
+AreFilesTo other work c settings = IsGeneratedOf c settings
+
+-- The files are made, the proofs get their head line, and the steps are put one after the other.
+pub record WritesSteps (files : RunFiles) (settings : Settings) (AreSo : List Step → Type 0)
+    (acts : List Act) : Type 0 where
+  pub steps : List Step
+  pub steps_are : AreSo steps
   pub acts_are : acts ≡ creation files ++ put Proofs (proofs_so_far settings [])
       ∷ flat_map step_acts steps
 
 -- All steps, and then the end of the proofs and the report. The three files and the total line are those of a finished
--- run of the generator.
-pub record WritesFiles (files : RunFiles) (c : net.Netlist) (settings : Settings)
-    (acts : List Act) : Type 0 where
+-- search.
+pub record WritesFiles (files : RunFiles) (settings : Settings) (AreSo : List Step → Type 0)
+    (IsLast : List Step → List ℕ → List ℕ → Type 0) (acts : List Act) : Type 0 where
   pub first : List Act
-  pub begun : WritesSteps files c settings first
+  pub begun : WritesSteps files settings AreSo first
   pub body : List ℕ
   pub total : List ℕ
   pub acts_are : acts ≡ first
       ++ put Proofs (with_lf (line_text End)) ∷ put Report body ∷ put Out total
       ∷ ending Report total
-  pub generated : IsGenerated c settings (tests_of begun.steps) (body ++ total)
-      (proofs_of settings begun.steps) total
+  pub finished : IsLast begun.steps (body ++ total) total
+
+-- the files of a search that goes so far
+abbrev pub SearchesTo : Depth → ℕ → RunFiles → net.Netlist → Settings → List Act → Type 0
+SearchesTo depth work files c settings =
+    WritesFiles files settings (AreStepsTo depth c settings) (AreFilesTo depth work c settings)
 
 -- ---- `demo`
 
@@ -189,7 +242,7 @@ demo_settings c seed = record {
   random = DEMO_RANDOM;
   seed = seed;
   weighted = 0;
-  search = Plain;
+  search = engine.Plain;
   start = unknown_state c;
   first = record { width = c.inputs; list = [] };
   chosen = None;
@@ -228,16 +281,22 @@ pub record IsReportOf (c : Netlist) (start : List Tern) (list : List (List Bool)
 
 -- ---- `compact`
 
--- The text is that of the vectors to which this list is compacted, and the total line says how many vectors there were
--- and how many are kept.
-pub record IsCompactionOf (c : net.Netlist) (list : List (List Bool)) (text total : List ℕ) : Type 0
-  where
-    pub representatives : List ℕ
-    pub kept : List (List Bool)
-    pub classes : AreClasses c representatives
-    pub compacted : Compacts c representatives list kept
-    pub text_is : text ≡ test_text kept
-    pub total_is : total ≡ with_lf (compaction_line (length list) (length kept))
+-- the longest run of vectors that is left out at once: one vector where the words don't say it
+abbrev pub most_at_once : Option ℕ → ℕ
+most_at_once None = 1
+most_at_once (Some most) = most
+
+-- The text is that of the vectors to which this list is compacted by runs of at most so many, and the total line says
+-- how many vectors there were and how many are kept.
+pub record IsCompactionOf (c : net.Netlist) (most : ℕ) (list : List (List Bool))
+    (text total : List ℕ) : Type 0 where
+  pub representatives : List ℕ
+  pub kept : List (List Bool)
+  pub classes : AreClasses c representatives
+  pub computed : kept ≡ compaction_of c representatives most list
+  pub compacted : CompactsRuns c representatives most list kept
+  pub text_is : text ≡ test_text kept
+  pub total_is : total ≡ with_lf (compaction_line (length list) (length kept))
 
 -- ---- `diagnose`
 
@@ -365,14 +424,14 @@ OutputOf sim job basis acts = MakesAt job Report (λ out. WritesFile Report out
     (λ body total. IsReportOf basis.circuit basis.content.start basis.content.list
     (body ++ total) total) acts)
 OutputOf gen job basis acts = (files : RunFiles) × (job.makes ≡ made_by files)
-    × WritesFiles files basis.circuit (settings_of basis job) acts
+    × SearchesTo job.numbers.depth job.numbers.work files basis.circuit (settings_of basis job) acts
 OutputOf check job basis acts = AreTrue basis × (acts ≡ put Out (codes "valid\n") ∷ [])
 OutputOf norm job basis acts =
     MakesAt job Report (λ out. acts ≡ make Report out ∷ put Report (normal_text basis.circuit) ∷ [])
 OutputOf demo job basis acts = SaysTotals job.numbers.size job.numbers.seed acts
 OutputOf compact job basis acts =
-    MakesAt job Tests (λ out. WritesFile Tests out (IsCompactionOf basis.circuit basis.content.list)
-    acts)
+    MakesAt job Tests (λ out. WritesFile Tests out
+    (IsCompactionOf basis.circuit (most_at_once job.numbers.runs) basis.content.list) acts)
 OutputOf diagnose job basis acts = MakesAt job Report (λ out. WritesFile Report out
     (λ body total. IsDiagnosisReport basis.circuit basis.content.list basis.rows
     (body ++ total) total) acts)
@@ -400,7 +459,8 @@ MakesOutput job = OutputOf job.command job
 -- What each command does while it may still ask for memory.
 abbrev pub BeginningOf : Kind → Asked → JobBasis → List Act → Type 0
 BeginningOf gen job basis acts = (files : RunFiles) × (job.makes ≡ made_by files)
-    × WritesSteps files basis.circuit (settings_of basis job) acts
+    × WritesSteps files (settings_of basis job)
+    (AreStepsTo job.numbers.depth basis.circuit (settings_of basis job)) acts
 BeginningOf demo job basis acts = SaysHead job.numbers.size job.numbers.seed acts
 BeginningOf kind job basis acts = ⊥
 

@@ -1,7 +1,7 @@
 //! The command `gen`.
 //!
 //! `create` makes the three files, and `fill` writes them: `sizes` begins the proofs, `steps` writes the engine's steps,
-//! and the report comes last.
+//! and the report comes last. `full` does the same with a full search: `lists` writes its vectors, `entries` its entries.
 ghost use Rattle.std.specs.Prelude.{◌≡◌, ◌≤◌, [], None};
 ghost use Rattle.ht_ports.specs.Desk.{DeskView};
 ghost use Rattle.ht_net.specs.Circuit.Netlist.{IsCircuit};
@@ -9,21 +9,26 @@ ghost use Rattle.ht_net.specs.Detect.Detection.{IsStart};
 ghost use Rattle.ht_faults.specs.Sites.{faults_of};
 ghost use Rattle.ht_faults.specs.Classes.{AreClasses};
 ghost use Rattle.ht_texts.specs.SearchReports.{HasPlainNames};
-ghost use Rattle.ht_asked.specs.declared.limits.TheConstants.{MAX_BUDGET, MIN_BUDGET};
+ghost use Rattle.ht_asked.specs.declared.limits.TheConstants.{MAX_BUDGET, MAX_WORK, MIN_BUDGET};
 ghost use Rattle.ht_words.specs.Jobs.{asked_by};
 ghost use Rattle.ht_words.specs.declared.job.Job.TheVariants as job_of;
 ghost use Rattle.ht_inputs.specs.Inputs.{AreVectorsOf, HasNetlist, IsStated, JobBasis};
 ghost use Rattle.ht_inputs.specs.Reading.{HasReadTo};
-ghost use Rattle.ht_app.specs.Generating.{WritesAll};
+ghost use Rattle.ht_app.specs.Generating.{WritesGenerated, WritesTo};
 ghost use Rattle.ht_app.specs.Outputs.{search_of};
 ghost use Rattle.ht_app.specs.Steps.{EndsJob};
 
 mod create;
+mod entries;
 mod fill;
+mod full;
+mod lists;
 pub mod sizes;
 mod steps;
 
 use crate::generate::fill::write_files;
+use crate::generate::full::run_full;
+use ht_asked::Depth;
 use ht_engine::{Engine, Search, Settings};
 use ht_inputs::{
     Listed, RunError, list_faults, read_chosen, read_first, read_netlist, read_stated,
@@ -47,16 +52,16 @@ fn settings_for(
       random = options.now.random;
       seed = options.now.seed;
       weighted = options.now.weighted;
-      search = search_of options.now.deep;
+      search = search_of options.now.depth;
       start = start.items;
       first = first;
       chosen = chosen;
     } }
 {
-    let search = if options.deep {
-        Search::Deep
-    } else {
-        Search::Plain
+    let search = match options.depth {
+        Depth::Plain => Search::Plain,
+        Depth::Deep => Search::Deep,
+        Depth::Full => Search::Deep,
     };
     Settings {
         budget: options.budget,
@@ -85,7 +90,7 @@ fn run_engine<D: Desk>(
     requires latches { IsStart circuit.now settings.now.start }
     requires first { settings.now.first.width ≡ circuit.now.inputs }
     requires budget { (MIN_BUDGET ≤ settings.now.budget) × (settings.now.budget ≤ MAX_BUDGET) }
-    ensures { WritesAll files.now circuit.now settings.now result (D.view desk.old)
+    ensures { WritesGenerated files.now circuit.now settings.now result (D.view desk.old)
         (D.view desk.new) }
 {
     let faults = &listed.faults;
@@ -102,6 +107,34 @@ fn run_engine<D: Desk>(
     // for the proof: dropped by name
     drop(engine);
     written
+}
+
+// Searches as far as the options say, and makes the files.
+fn run_search<D: Desk>(
+    alloc: Global,
+    circuit: &Circuit,
+    listed: &Listed,
+    files: &RunFiles,
+    options: &GenOptions,
+    settings: &Settings,
+    desk: &mut D,
+) -> Result<(), RunError>
+    requires plain { HasPlainNames circuit.now }
+    requires faults { listed.now.faults ≡ faults_of circuit.now }
+    requires classes { AreClasses circuit.now listed.now.classes }
+    requires latches { IsStart circuit.now settings.now.start }
+    requires first { settings.now.first.width ≡ circuit.now.inputs }
+    requires budget { (MIN_BUDGET ≤ settings.now.budget) × (settings.now.budget ≤ MAX_BUDGET) }
+    requires search { settings.now.search ≡ search_of options.now.depth }
+    requires work { options.now.work ≤ MAX_WORK }
+    ensures { WritesTo options.now.depth options.now.work files.now circuit.now settings.now result
+        (D.view desk.old) (D.view desk.new) }
+{
+    match options.depth {
+        Depth::Plain => run_engine(alloc, circuit, listed, files, settings, desk),
+        Depth::Deep => run_engine(alloc, circuit, listed, files, settings, desk),
+        Depth::Full => { run_full(alloc, circuit, listed, files, settings, options.work, desk) }
+    }
 }
 
 // Reads the list of faults, if the options name one, once the other files are read, generates tests, and writes them, the
@@ -124,6 +157,7 @@ fn generate_chosen<D: Desk>(
     requires widths { AreVectorsOf circuit.now first.list }
     requires none { options.now.first ≡ None → first.list ≡ [] }
     requires budget { (MIN_BUDGET ≤ options.now.budget) × (options.now.budget ≤ MAX_BUDGET) }
+    requires work { options.now.work ≤ MAX_WORK }
     ensures { (before : DeskView) → ((basis : JobBasis) → basis.circuit ≡ circuit.now
         → basis.content.start ≡ start.items → basis.content.list ≡ first.list
         → HasReadTo (asked_by (job_of.Gen files.now options.now)) basis 3 before (D.view desk.old))
@@ -131,7 +165,7 @@ fn generate_chosen<D: Desk>(
 {
     let chosen = read_chosen(alloc, desk, listed.faults.len(), &options.faults)?;
     let settings = settings_for(options, start, first, chosen);
-    let done = run_engine(alloc, circuit, listed, files, &settings, desk);
+    let done = run_search(alloc, circuit, listed, files, options, &settings, desk);
     // for the proof: dropped by name
     drop(settings);
     done
@@ -149,6 +183,7 @@ fn generate_for<D: Desk>(
     requires circuit { IsCircuit circuit.now }
     requires netlist { HasNetlist circuit.now }
     requires budget { (MIN_BUDGET ≤ options.now.budget) × (options.now.budget ≤ MAX_BUDGET) }
+    requires work { options.now.work ≤ MAX_WORK }
     ensures { (first : DeskView) → ((basis : JobBasis) → basis.circuit ≡ circuit.now
         → IsStated (asked_by (job_of.Gen files.now options.now)) basis
         → HasReadTo (asked_by (job_of.Gen files.now options.now)) basis 1 first (D.view desk.old))
@@ -174,7 +209,8 @@ pub fn generate<D: Desk>(
     options: &GenOptions,
     desk: &mut D,
 ) -> Result<(), RunError>
-    requires { (MIN_BUDGET ≤ options.now.budget) × (options.now.budget ≤ MAX_BUDGET) }
+    requires budget { (MIN_BUDGET ≤ options.now.budget) × (options.now.budget ≤ MAX_BUDGET) }
+    requires work { options.now.work ≤ MAX_WORK }
     ensures { EndsJob (asked_by (job_of.Gen files.now options.now)) result (D.view desk.old)
         (D.view desk.new) }
 {

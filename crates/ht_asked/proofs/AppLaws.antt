@@ -9,7 +9,7 @@ use Rattle.std.proofs.lemmas.Bool.Decides.{Decides-eqb}
 use Rattle.std.proofs.lemmas.Option.{slice_get_within}
 use Rattle.std.proofs.lemmas.List.Folds.{list_any-append}
 use Rattle.clap.specs.Lexer.{usize_max}
-use Rattle.clap.specs.Walk.{Rule, Text, arg_by_id, arg_by_index, arg_by_long, arg_by_short, has_long, has_short}
+use Rattle.clap.specs.Walk.{Rule, Text, arg_by_index, arg_by_long, arg_by_short, has_long, has_short}
 use Rattle.ht_asked.specs.Forms.{Form, all_differ, is_among, named}
 use Rattle.ht_asked.proofs.Uses.{arguments, place_in}
 use Rattle.ht_asked.proofs.NameLaws.{apart, found, later_differ, same_name}

@@ -3,6 +3,7 @@ use Rattle.std.proofs.Common.{◌≡◌, ◌∷◌, ◌++◌, ◌==◌, ℕ, Boo
 use Rattle.std.specs.Prelude.{if◌then◌else◌}
 use Rattle.clap.specs.Walk.{Text}
 use Rattle.ht_asked.specs.Forms.{given, parts}
+use Rattle.ht_asked.specs.declared.depth.Depth.TheVariants.{Deep, Full}
 use Rattle.ht_asked.specs.Asked.{Asked, InNames, Numbers, OutNames, makes_nothing, reads_nothing, unsaid}
 use Rattle.ht_asked.specs.Table.{Kind}
 use Rattle.ht_asked.specs.Table.{breed, causes, check, compact, demo, diagnose, gen, report, respond, sync, uninit}
@@ -80,12 +81,17 @@ random_vectors = refl
 -- the options of what is worked on, and how
 further_options : map gen_asks (codes "--first f --faults=l --start=s" ∷ codes "--weighted=007 --search deep"
     ∷ codes "--search=plain --weighted 100000" ∷ codes "--weighted 100001" ∷ codes "--search=Deep"
-    ∷ codes "--search=" ∷ codes "--search" ∷ codes "--search=deep --search=deep" ∷ codes "--first=f --first=f"
+    ∷ codes "--search=" ∷ codes "--search" ∷ codes "--search=full" ∷ codes "--work=1000000 --search full"
+    ∷ codes "--work=7" ∷ codes "--work 0" ∷ codes "--work 1000001"
+    ∷ codes "--search=deep --search=deep" ∷ codes "--first=f --first=f"
     ∷ codes "--faults -l" ∷ [])
     ≡ told_from (record reads_nothing { tests = Some (codes "f"); faults = Some (codes "l"); extra = Some (codes "s") })
     unsaid
-    ∷ told_by (record unsaid { weighted = 7; deep = true }) ∷ told_by (record unsaid { weighted = 100000 })
-    ∷ None ∷ None ∷ None ∷ None ∷ None ∷ None ∷ None ∷ []
+    ∷ told_by (record unsaid { weighted = 7; depth = Deep }) ∷ told_by (record unsaid { weighted = 100000 })
+    ∷ None ∷ None ∷ None ∷ None
+    ∷ told_by (record unsaid { depth = Full })
+    ∷ told_by (record unsaid { depth = Full; work = 1000000 }) ∷ told_by (record unsaid { work = 7 })
+    ∷ None ∷ None ∷ None ∷ None ∷ None ∷ []
 unfolding asked given parts
 further_options = refl
 
@@ -122,14 +128,23 @@ of_tests tests = record reads_nothing { netlist = Some (codes "n"); tests = Some
 abbrev to_report : Text → OutNames
 to_report out = record makes_nothing { report = Some out }
 
-abbrev compacts : Text → Text → Option Asked
-compacts tests out = job_of compact (of_tests tests) (record makes_nothing { tests = Some out }) unsaid
+abbrev compacts : Text → Text → Option ℕ → Option Asked
+compacts tests out runs =
+    job_of compact (of_tests tests) (record makes_nothing { tests = Some out }) (record unsaid { runs = runs })
 
--- `compact` has three names, `diagnose` four, and neither has an option
+-- `compact` may have a longest run
+runs : map asks (codes "compact n t o --runs 1" ∷ codes "compact --runs=064 n t o" ∷ codes "compact n t o --runs 0"
+    ∷ codes "compact n t o --runs=65" ∷ codes "compact n t o --runs" ∷ codes "sync n t o --runs=1" ∷ [])
+    ≡ compacts (codes "t") (codes "o") (Some 1) ∷ compacts (codes "t") (codes "o") (Some 64) ∷ None ∷ None ∷ None
+    ∷ None ∷ []
+unfolding asked given parts
+runs = refl
+
+-- `compact` has three names, `diagnose` four, and they need no option
 further : map asks (codes "compact n t o" ∷ codes "compact n -- -t -" ∷ codes "compact n t" ∷ codes "compact n t o p"
     ∷ codes "Compact n t o" ∷ codes "diagnose n t r o" ∷ codes "diagnose n t r" ∷ codes "diagnose n t r o --seed=3"
     ∷ [])
-    ≡ compacts (codes "t") (codes "o") ∷ compacts (codes "-t") (codes "-") ∷ None ∷ None ∷ None
+    ≡ compacts (codes "t") (codes "o") None ∷ compacts (codes "-t") (codes "-") None ∷ None ∷ None ∷ None
     ∷ job_of diagnose (record (of_tests (codes "t")) { extra = Some (codes "r") }) (to_report (codes "o")) unsaid
     ∷ None ∷ None ∷ []
 unfolding asked given parts

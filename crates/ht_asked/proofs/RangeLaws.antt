@@ -6,14 +6,15 @@ use Rattle.std.specs.Str.Parse.{digits_value}
 use Rattle.std.proofs.lemmas.Bool.{leb-true}
 use Rattle.clap.specs.Walk.{Text}
 use Rattle.clap.proofs.WalkLemmas.{both}
-use Rattle.ht_asked.specs.declared.limits.TheConstants.{MAX_BRED, MAX_BUDGET, MAX_FAULT, MAX_RANDOM, MAX_SEED, MAX_SIZE, MIN_BUDGET, MIN_FAULT, MIN_SIZE}
+use Rattle.ht_asked.specs.declared.limits.TheConstants.{MAX_BRED, MAX_BUDGET, MAX_FAULT, MAX_RANDOM, MAX_RUN, MAX_SEED, MAX_SIZE, MAX_WORK, MIN_BUDGET, MIN_FAULT, MIN_RUN, MIN_SIZE, MIN_WORK}
+use Rattle.ht_asked.specs.declared.depth.Depth.{Depth}
 use Rattle.ht_asked.specs.Forms.{Given, given}
 use Rattle.ht_asked.specs.Numbers.{is_number, number_in, number_or}
 use Rattle.ht_asked.specs.Asked.{Asked, InNames, Numbers, OutNames}
 use Rattle.ht_asked.specs.Table.{Kind}
-use Rattle.ht_asked.specs.Commands.{Command, Sorted, asked, bred_of, budget_of, command_of, deep_of, demo_size, fault_of}
+use Rattle.ht_asked.specs.Commands.{Command, Sorted, asked, bred_of, budget_of, command_of, demo_size, depth_of, fault_of}
 use Rattle.ht_asked.specs.Table.{command_row}
-use Rattle.ht_asked.specs.Commands.{job_said, numbers_with, random_of, seed_of, sorted_by}
+use Rattle.ht_asked.specs.Commands.{job_said, number_if, numbers_with, random_of, runs_of, seed_of, sorted_by, work_of}
 use Rattle.ht_asked.specs.Table.{kinds}
 use Rattle.ht_asked.specs.Ranges.{IsInRange}
 
@@ -43,14 +44,15 @@ option_is_in_range default least most within (Some text) = number_is_in_range le
 
 -- ---- the numbers of a job
 
-abbrev FaultInRange : Option ℕ → Type 0
-FaultInRange fault = IfSome fault (InRange MIN_FAULT MAX_FAULT)
+abbrev IfInRange : ℕ → ℕ → Option ℕ → Type 0
+IfInRange least most number = IfSome number (InRange least most)
 
-fault_in_range : (text : Option Text) → IfSome (fault_of text) FaultInRange
-fault_in_range None = tt
-fault_in_range (Some text) = go (number_in MIN_FAULT MAX_FAULT text) (number_is_in_range MIN_FAULT MAX_FAULT text)
+-- so is a number that may be left out
+number_if_in_range : (least most : ℕ) (text : Option Text) → IfSome (number_if least most text) (IfInRange least most)
+number_if_in_range least most None = tt
+number_if_in_range least most (Some text) = go (number_in least most text) (number_is_in_range least most text)
   where
-    go : (n : Option ℕ) → FaultInRange n → IfSome (option_map Some n) FaultInRange
+    go : (n : Option ℕ) → IfInRange least most n → IfSome (option_map Some n) (IfInRange least most)
     go None within = tt
     go (Some n) within = within
 
@@ -58,29 +60,43 @@ abbrev AsksInRange : Option Asked → Type 0
 AsksInRange asks = IfSome asks IsInRange
 
 by_numbers : (kind : Kind) (reads : InNames) (makes : OutNames) (budget random weighted bred seed : Option ℕ)
-    (deep : Option Bool) (fault : Option (Option ℕ)) (size : Option ℕ) (lines : Bool)
+    (depth : Option Depth) (work : Option ℕ) (fault runs : Option (Option ℕ)) (size : Option ℕ) (lines : Bool)
     → IfSome budget (InRange MIN_BUDGET MAX_BUDGET) → IfSome random (InRange 0 MAX_RANDOM)
     → IfSome weighted (InRange 0 MAX_RANDOM) → IfSome bred (InRange 0 MAX_BRED)
-    → IfSome seed (InRange 0 MAX_SEED) → IfSome fault FaultInRange → IfSome size (InRange MIN_SIZE MAX_SIZE)
+    → IfSome seed (InRange 0 MAX_SEED) → IfSome work (InRange MIN_WORK MAX_WORK)
+    → IfSome fault (IfInRange MIN_FAULT MAX_FAULT) → IfSome runs (IfInRange MIN_RUN MAX_RUN)
+    → IfSome size (InRange MIN_SIZE MAX_SIZE)
     → AsksInRange (option_map
     (λ (n : Numbers). record { command = kind; reads = reads; makes = makes; numbers = n })
-    (numbers_with budget random weighted bred seed deep fault size lines))
-by_numbers kind reads makes (Some b) (Some r) (Some w) (Some n) (Some s) (Some d) (Some f) (Some z) lines bs rs ws ns ss
-    fs zs =
-    record { budget = bs; random = rs.1; weighted = ws.1; bred = ns.1; seed = ss.1; fault = fs; size = zs }
-by_numbers kind reads makes _ _ _ _ _ _ _ _ lines bs rs ws ns ss fs zs = tt
+    (numbers_with budget random weighted bred seed depth work fault runs size lines))
+by_numbers kind reads makes (Some b) (Some r) (Some w) (Some n) (Some s) (Some d) (Some k) (Some f) (Some l) (Some z)
+    lines bs rs ws ns ss ks fs ls zs = record {
+      budget = bs;
+      random = rs.1;
+      weighted = ws.1;
+      bred = ns.1;
+      seed = ss.1;
+      work = ks;
+      fault = fs;
+      runs = ls;
+      size = zs;
+    }
+by_numbers kind reads makes _ _ _ _ _ _ _ _ _ _ lines bs rs ws ns ss ks fs ls zs = tt
 
 said_in_range : (kind : Kind) (texts : Sorted) → AsksInRange (job_said kind texts)
 said_in_range kind texts = by_numbers kind texts.reads texts.makes (budget_of texts.numbers.budget)
     (random_of texts.numbers.random) (random_of texts.numbers.weighted) (bred_of texts.numbers.bred)
-    (seed_of texts.numbers.seed) (deep_of texts.numbers.depth) (fault_of texts.numbers.fault)
-    (demo_size texts.numbers.size) (is_some texts.numbers.lines)
+    (seed_of texts.numbers.seed) (depth_of texts.numbers.depth) (work_of texts.numbers.work)
+    (fault_of texts.numbers.fault) (runs_of texts.numbers.runs) (demo_size texts.numbers.size)
+    (is_some texts.numbers.lines)
     (option_is_in_range 1000 MIN_BUDGET MAX_BUDGET (omega arith, omega arith) texts.numbers.budget)
     (option_is_in_range 0 0 MAX_RANDOM (omega arith, omega arith) texts.numbers.random)
     (option_is_in_range 0 0 MAX_RANDOM (omega arith, omega arith) texts.numbers.weighted)
     (option_is_in_range 2000 0 MAX_BRED (omega arith, omega arith) texts.numbers.bred)
     (option_is_in_range 0 0 MAX_SEED (omega arith, omega arith) texts.numbers.seed)
-    (fault_in_range texts.numbers.fault)
+    (option_is_in_range 60 MIN_WORK MAX_WORK (omega arith, omega arith) texts.numbers.work)
+    (number_if_in_range MIN_FAULT MAX_FAULT texts.numbers.fault)
+    (number_if_in_range MIN_RUN MAX_RUN texts.numbers.runs)
     (option_is_in_range 1 MIN_SIZE MAX_SIZE (omega arith, omega arith) texts.numbers.size)
 
 -- ---- the table of the commands

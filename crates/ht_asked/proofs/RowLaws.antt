@@ -1,5 +1,5 @@
 -- What the rows give to the arguments of a form: no argument has a default, and each positional is wanted.
-use Rattle.std.proofs.Common.{◌≡◌, ◌∙◌, ◌∷◌, ◌++◌, ◌&&◌, ◌||◌, ℕ, suc, Bool, true, false, not, cond, List, [], map, Option, Some, None, refl, sym, ap, option_map, is_some, codes}
+use Rattle.std.proofs.Common.{◌≡◌, ◌∙◌, ◌∷◌, ◌++◌, ◌&&◌, ◌||◌, ℕ, suc, Bool, true, false, not, cond, List, [], map, Option, Some, None, refl, ap, option_map, is_some, codes}
 use Rattle.std.specs.Prelude.{find, fold, option_and_then, slice_get}
 use Rattle.std.specs.List.{list_any}
 use Rattle.std.specs.Option.{option_map_or}

@@ -1,19 +1,21 @@
 -- What the words of the command line ask for, by the table of the commands.
-use Rattle.std.specs.Prelude.{Bool, true, false, if◌then◌else◌, List, [], ◌∷◌, ◌++◌, Option, Some, None, is_some, ℕ}
+use Rattle.std.specs.Prelude.{Bool, if◌then◌else◌, List, [], ◌∷◌, ◌++◌, Option, Some, None, is_some, ℕ}
 use Rattle.std.specs.Prelude.{codes, find, map, option_and_then, option_map, String, string_bytes}
 use Rattle.std.specs.Global.{Global}
 use Rattle.std.specs.Str.{bytes_eq}
 use Rattle.clap.specs.Walk.{Text}
 use Rattle.ht_ports.specs.declared.ports.InPort.TheVariants as in_port
 use Rattle.ht_ports.specs.declared.ports.OutPort.TheVariants as out_port
-use Rattle.ht_asked.specs.declared.limits.TheConstants.{DEFAULT_BRED, DEFAULT_BUDGET, MAX_BRED, MAX_BUDGET, MIN_BUDGET}
+use Rattle.ht_asked.specs.declared.depth.Depth.{Depth}
+use Rattle.ht_asked.specs.declared.depth.Depth.TheVariants.{Plain, Deep, Full}
+use Rattle.ht_asked.specs.declared.limits.TheConstants.{DEFAULT_BRED, DEFAULT_BUDGET, DEFAULT_WORK, MAX_BRED, MAX_BUDGET, MIN_BUDGET}
 use Rattle.ht_asked.specs.declared.limits.TheConstants.{DEFAULT_RANDOM, DEFAULT_SEED, MAX_RANDOM, MAX_SEED}
-use Rattle.ht_asked.specs.declared.limits.TheConstants.{MAX_FAULT, MAX_SIZE, MIN_FAULT, MIN_SIZE}
+use Rattle.ht_asked.specs.declared.limits.TheConstants.{MAX_FAULT, MAX_RUN, MAX_SIZE, MAX_WORK, MIN_FAULT, MIN_RUN, MIN_SIZE, MIN_WORK}
 use Rattle.ht_asked.specs.Asked.{Asked, InNames, Numbers, OutNames, makes_nothing, reads_nothing}
 use Rattle.ht_asked.specs.Forms.{Form, Given, given}
 use Rattle.ht_asked.specs.Numbers.{number_in, number_or}
 use Rattle.ht_asked.specs.Table.{Argument, Kind, Role, Row, command_row, file_made, file_read, kinds, says_budget}
-use Rattle.ht_asked.specs.Table.{says_bred, says_depth, says_fault, says_lines, says_random, says_seed, says_size, says_weighted}
+use Rattle.ht_asked.specs.Table.{says_bred, says_depth, says_fault, says_lines, says_random, says_runs, says_seed, says_size, says_weighted, says_work}
 
 -- the words as their bytes
 abbrev pub words_of : List (String Global) → List Text
@@ -38,16 +40,29 @@ bred_of = number_or DEFAULT_BRED 0 MAX_BRED
 abbrev pub seed_of : Option Text → Option ℕ
 seed_of = number_or DEFAULT_SEED 0 MAX_SEED
 
--- whether the search is deep, where the option's text is `plain` or `deep`, or is left out
-abbrev pub deep_of : Option Text → Option Bool
-deep_of None = Some false
-deep_of (Some text) = if bytes_eq text (codes "plain") then Some false
-    else (if bytes_eq text (codes "deep") then Some true else None)
+-- how far the search goes, where the option's text is `plain`, `deep` or `full`, or is left out
+abbrev pub depth_of : Option Text → Option Depth
+depth_of None = Some Plain
+depth_of (Some text) = if bytes_eq text (codes "plain") then Some Plain
+    else (if bytes_eq text (codes "deep") then Some Deep
+    else (if bytes_eq text (codes "full") then Some Full else None))
+
+-- the work of a full search, where the option's text is one or is left out
+abbrev pub work_of : Option Text → Option ℕ
+work_of = number_or DEFAULT_WORK MIN_WORK MAX_WORK
+
+-- a number in a range, where the option's text is one, or none where it is left out
+abbrev pub number_if : ℕ → ℕ → Option Text → Option (Option ℕ)
+number_if least most None = Some None
+number_if least most (Some text) = option_map Some (number_in least most text)
 
 -- the number of a fault, where the option's text is one, or none where it is left out
 abbrev pub fault_of : Option Text → Option (Option ℕ)
-fault_of None = Some None
-fault_of (Some text) = option_map Some (number_in MIN_FAULT MAX_FAULT text)
+fault_of = number_if MIN_FAULT MAX_FAULT
+
+-- the longest run of vectors that is left out at once, or none where the option is left out
+abbrev pub runs_of : Option Text → Option (Option ℕ)
+runs_of = number_if MIN_RUN MAX_RUN
 
 -- the size of a demonstration netlist, where the text is one
 abbrev pub demo_size : Option Text → Option ℕ
@@ -63,8 +78,10 @@ pub record NumberTexts : Type 0 where
   pub bred : Option Text
   pub seed : Option Text
   pub depth : Option Text
+  pub work : Option Text
   pub fault : Option Text
   pub lines : Option Text
+  pub runs : Option Text
   pub size : Option Text
 
 -- the texts of all arguments, by what they are for
@@ -85,8 +102,10 @@ nothing_sorted = record {
     bred = None;
     seed = None;
     depth = None;
+    work = None;
     fault = None;
     lines = None;
+    runs = None;
     size = None;
   };
 }
@@ -109,8 +128,10 @@ sort_in says_weighted text s = record s { numbers = record s.numbers { weighted 
 sort_in says_bred text s = record s { numbers = record s.numbers { bred = text } }
 sort_in says_seed text s = record s { numbers = record s.numbers { seed = text } }
 sort_in says_depth text s = record s { numbers = record s.numbers { depth = text } }
+sort_in says_work text s = record s { numbers = record s.numbers { work = text } }
 sort_in says_fault text s = record s { numbers = record s.numbers { fault = text } }
 sort_in says_lines text s = record s { numbers = record s.numbers { lines = text } }
+sort_in says_runs text s = record s { numbers = record s.numbers { runs = text } }
 sort_in says_size text s = record s { numbers = record s.numbers { size = text } }
 
 -- the texts of these arguments, after others and in their order, where there is one for each
@@ -127,28 +148,30 @@ sorted_by row positionals options = option_and_then
     (sorted nothing_sorted row.positionals (map Some positionals))
 
 -- the numbers and choices, where each is one, and whether a machine is shown at each net
-abbrev pub numbers_with : Option ℕ → Option ℕ → Option ℕ → Option ℕ → Option ℕ → Option Bool
-    → Option (Option ℕ) → Option ℕ → Bool → Option Numbers
-numbers_with (Some budget) (Some random) (Some weighted) (Some bred) (Some seed) (Some deep)
-    (Some fault) (Some size) lines =
+abbrev pub numbers_with : Option ℕ → Option ℕ → Option ℕ → Option ℕ → Option ℕ → Option Depth
+    → Option ℕ → Option (Option ℕ) → Option (Option ℕ) → Option ℕ → Bool → Option Numbers
+numbers_with (Some budget) (Some random) (Some weighted) (Some bred) (Some seed) (Some depth)
+    (Some work) (Some fault) (Some runs) (Some size) lines =
     Some (record {
       budget = budget;
       random = random;
       weighted = weighted;
       bred = bred;
       seed = seed;
-      deep = deep;
+      depth = depth;
+      work = work;
       fault = fault;
       lines = lines;
+      runs = runs;
       size = size;
     })
-numbers_with _ _ _ _ _ _ _ _ lines = None
+numbers_with _ _ _ _ _ _ _ _ _ _ lines = None
 
 -- the numbers and choices that their texts say, where each of them says one
 abbrev pub numbers_said : NumberTexts → Option Numbers
 numbers_said t = numbers_with (budget_of t.budget) (random_of t.random) (random_of t.weighted)
-    (bred_of t.bred) (seed_of t.seed) (deep_of t.depth) (fault_of t.fault) (demo_size t.size)
-    (is_some t.lines)
+    (bred_of t.bred) (seed_of t.seed) (depth_of t.depth) (work_of t.work) (fault_of t.fault)
+    (runs_of t.runs) (demo_size t.size) (is_some t.lines)
 
 -- the job of a command that the texts of its arguments ask for, where each of its numbers is one
 abbrev pub job_said : Kind → Sorted → Option Asked

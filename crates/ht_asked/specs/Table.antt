@@ -20,9 +20,11 @@ pub data Role : Type 0 where
   says_bred : Role
   says_seed : Role
   says_depth : Role
+  says_work : Role
   says_fault : Role
   says_size : Role
   says_lines : Role
+  says_runs : Role
 
 -- an argument of a command: its name, and what it is for
 pub record Argument : Type 0 where
@@ -116,7 +118,8 @@ command_row gen = record (row_with (codes "gen")
     ∷ output (codes "proofs") out_port.Proofs ∷ [])
     (of_budget ∷ number (codes "random") says_random ∷ number (codes "seed") says_seed ∷ of_start
     ∷ input (codes "first") in_port.Tests ∷ input (codes "faults") in_port.Faults
-    ∷ number (codes "weighted") says_weighted ∷ number (codes "search") says_depth ∷ []))
+    ∷ number (codes "weighted") says_weighted ∷ number (codes "search") says_depth
+    ∷ number (codes "work") says_work ∷ []))
     { makes_early = true }
 command_row check = row_with (codes "check")
     (of_netlist ∷ of_tests ∷ input (codes "report") in_port.Report
@@ -128,7 +131,8 @@ command_row demo = record (row_with (codes "demo")
     (number (codes "size") says_size ∷ number (codes "seed") says_seed ∷ []) [])
     { says_early = true }
 command_row compact = row_with (codes "compact")
-    (of_netlist ∷ of_tests ∷ output (codes "out") out_port.Tests ∷ []) []
+    (of_netlist ∷ of_tests ∷ output (codes "out") out_port.Tests ∷ [])
+    (number (codes "runs") says_runs ∷ [])
 command_row diagnose = row_with (codes "diagnose")
     (of_netlist ∷ of_tests ∷ input (codes "responses") in_port.Extra ∷ of_out ∷ []) []
 command_row uninit = row_with (codes "uninit") (of_netlist ∷ of_out ∷ []) (of_budget ∷ [])

@@ -14,7 +14,7 @@ abbrev pub value_shown : Role → Text
 value_shown (file_read port) = codes "FILE"
 value_shown (file_made port) = codes "FILE"
 value_shown says_seed = codes "S"
-value_shown says_depth = codes "plain|deep"
+value_shown says_depth = codes "plain|deep|full"
 value_shown role = codes "N"
 
 -- a positional: its name in capitals

@@ -27,6 +27,21 @@ pub const DEFAULT_BRED: u64 = 2_000;
 /// The most vectors that are bred.
 pub const MAX_BRED: u64 = 100_000;
 
+/// The work of a full search where the words give none.
+pub const DEFAULT_WORK: u64 = 60;
+
+/// The least work of a full search.
+pub const MIN_WORK: u64 = 1;
+
+/// The greatest work of a full search.
+pub const MAX_WORK: u64 = 1_000_000;
+
+/// The least length of the longest run of vectors that `compact` leaves out at once.
+pub const MIN_RUN: u64 = 1;
+
+/// The greatest length of it.
+pub const MAX_RUN: u64 = 64;
+
 /// The least size of a demonstration netlist.
 pub const MIN_SIZE: u64 = 1;
 

@@ -3,6 +3,7 @@ ghost use Rattle.std.specs.Prelude.{◌≡◌, [], IfOk, OnErr};
 ghost use Rattle.ht_engine.specs.FirstVectors.{DrawsNext, first_of, rest_of};
 
 use crate::settings::Settings;
+use ht_net::Vectors;
 use ht_random::{WeightedVectors, Words};
 use std::alloc::{AllocError, Global};
 use std::marker::Model;
@@ -118,4 +119,21 @@ impl<'s> FirstVectors<'s> {
         }
         self.next_weighted(alloc)
     }
+}
+
+/// All first vectors of some settings as one list, of `width` bits each.
+///
+/// # Errors
+/// Out of memory.
+pub fn first_list(alloc: Global, width: u32, settings: &Settings) -> Result<Vectors, AllocError>
+    requires { settings.now.first.width ≡ width }
+    ensures { IfOk result
+        (λ list. list ≡ record { width = width; list = first_of width settings.now }) }
+{
+    let mut first = FirstVectors::new(alloc, width, settings)?;
+    let mut list = Vectors::new(alloc, width);
+    'vectors: while let Some(vector) = first.next(alloc)? {
+        list.push(&vector)?;
+    }
+    Ok(list)
 }

@@ -18,6 +18,7 @@ stays a = record {
   circuit = refl;
   classes = refl;
   start = refl;
+  chosen = refl;
   more = [];
   added = sym (append-nil a.vectors.list);
   kept = λ i made is. is;
@@ -30,6 +31,7 @@ goes_further a b c once again = record {
   circuit = again.circuit ∙ once.circuit;
   classes = again.classes ∙ once.classes;
   start = again.start ∙ once.start;
+  chosen = again.chosen ∙ once.chosen;
   more = once.more ++ again.more;
   added = again.added ∙ ap (λ (l : List (List Bool)). l ++ again.more) once.added
       ∙ append_assoc a.vectors.list once.more again.more;
@@ -38,16 +40,17 @@ goes_further a b c once again = record {
 }
 
 -- vectors are added, and graded
-pub by_list : (v : VerdictsView) (g : ClassGraderView) (before after list : Rows)
+pub by_list : (v : VerdictsView) (g : ClassGraderView) (before after list : Rows) (chosen : List Bool)
     → after.list ≡ before.list ++ list.list
     → ((start : List Tern) (so_far : List (List Bool)) → ClassGraderStandsFor v.grader start so_far
     → ClassGraderStandsFor g start (so_far ++ list.list))
-    → KnowsMore (record { verdicts = v; vectors = before })
-    (record { verdicts = record v { grader = g }; vectors = after })
-by_list v g before after list added graded = record {
+    → KnowsMore (record { verdicts = v; vectors = before; chosen = chosen })
+    (record { verdicts = record v { grader = g }; vectors = after; chosen = chosen })
+by_list v g before after list chosen added graded = record {
   circuit = refl;
   classes = refl;
   start = refl;
+  chosen = refl;
   more = list.list;
   added = added;
   kept = λ i made is. is;
@@ -58,13 +61,15 @@ none_is : {A : Type 0} (made : recorded.Entry) (o : Option recorded.Entry) → o
 none_is made o none some = absurd (cc)
 
 -- an open fault gets an entry
-pub by_entry : (v : VerdictsView) (vectors : Rows) (fault : ℕ) (made : recorded.Entry) → entry_at v fault ≡ None
-    → KnowsMore (record { verdicts = v; vectors = vectors })
-    (record { verdicts = record v { entries = set v.entries fault (Some made) }; vectors = vectors })
-by_entry v vectors fault made none = record {
+pub by_entry : (v : VerdictsView) (vectors : Rows) (chosen : List Bool) (fault : ℕ) (made : recorded.Entry)
+    → entry_at v fault ≡ None
+    → KnowsMore (record { verdicts = v; vectors = vectors; chosen = chosen })
+    (record { verdicts = record v { entries = set v.entries fault (Some made) }; vectors = vectors; chosen = chosen })
+by_entry v vectors chosen fault made none = record {
   circuit = refl;
   classes = refl;
   start = refl;
+  chosen = refl;
   more = [];
   added = sym (append-nil vectors.list);
   kept = kept;
@@ -96,10 +101,11 @@ known_further c representatives start given a b known further = record {
 
 -- verdicts of no vectors
 pub known_at_first : (c : Netlist) (representatives : List ℕ) (start : List Tern) (v : VerdictsView) (vectors : Rows)
-    → v.circuit ≡ c → v.representatives ≡ representatives → v.start ≡ start → ClassGraderStandsFor v.grader start []
+    (chosen : List Bool) → v.circuit ≡ c → v.representatives ≡ representatives → v.start ≡ start
+    → ClassGraderStandsFor v.grader start []
     → vectors.list ≡ []
-    → IsKnownOf c representatives start [] (record { verdicts = v; vectors = vectors })
-known_at_first c representatives start v vectors circuit classes start_is graded empty = record {
+    → IsKnownOf c representatives start [] (record { verdicts = v; vectors = vectors; chosen = chosen })
+known_at_first c representatives start v vectors chosen circuit classes start_is graded empty = record {
   circuit = circuit;
   classes = classes;
   start_is = start_is;

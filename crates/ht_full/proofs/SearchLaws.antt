@@ -12,11 +12,12 @@ use Rattle.ht_full.specs.Searches.{FullView, IsChunk, IsChunkOf, IsChunkOrEnd, I
 use Rattle.ht_full.proofs.KnownLaws.{known_further}
 
 -- what runs to its end is of the same circuit, classes, start and given vectors, within the same work
-pub search_runs : (c : Netlist) (representatives : List ℕ) (start : List Tern) (given : List (List Bool)) (work : ℕ)
-    (a b : FullView) → IsFullOf c representatives start given work a → RunsTo a b
-    → IsFullOf c representatives start given work b
-search_runs c representatives start given work a b is runs = record {
+pub search_runs : (c : Netlist) (representatives : List ℕ) (start : List Tern) (given : List (List Bool))
+    (chosen : List Bool) (work : ℕ) (a b : FullView) → IsFullOf c representatives start given chosen work a → RunsTo a b
+    → IsFullOf c representatives start given chosen work b
+search_runs c representatives start given chosen work a b is runs = record {
   known = known_further c representatives start given a.known b.known is.known runs.known;
+  choice = runs.known.chosen ∙ is.choice;
   within = omega (arith, is.within, runs.within);
 }
 

@@ -8,7 +8,11 @@ use Rattle.ht_full.specs.Known.{KnownView}
 
 -- the fields as they are seen
 abbrev pub known_view : Inside → KnownView
-known_view a = record { verdicts = a.verdicts; vectors = a.vectors }
+known_view a = record {
+  verdicts = a.verdicts;
+  vectors = a.vectors;
+  chosen = a.chosen.now;
+}
 
 -- The verdicts are of the circuit, its classes and the start, and vectors have a bit for each input.
 pub record AreKnownFields (a : Inside) : Type 0 where

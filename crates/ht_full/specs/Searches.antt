@@ -50,6 +50,7 @@ pub record RunsTo (a b : FullView) : Type 0 where
 -- A search is of a circuit, its classes and a start, its vectors are the given ones and then others, and it took no more
 -- than the work that it was given.
 pub record IsFullOf (c : Netlist) (representatives : List ℕ) (start : List Tern)
-    (given : List (List Bool)) (work : ℕ) (s : FullView) : Type 0 where
+    (given : List (List Bool)) (chosen : List Bool) (work : ℕ) (s : FullView) : Type 0 where
   pub known : IsKnownOf c representatives start given s.known
+  pub choice : s.known.chosen ≡ chosen
   pub within : s.left ≤ work

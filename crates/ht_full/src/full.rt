@@ -77,6 +77,7 @@ impl<'c> FullSearch<'c> {
         faults: &'c FaultList,
         classes: &'c Classes,
         start: &'c [Tern],
+        chosen: &'c [bool],
         given: &Vectors,
         seed: u64,
         work: u64,
@@ -86,11 +87,11 @@ impl<'c> FullSearch<'c> {
         requires latches { IsStart circuit.now start.now }
         requires width { given.now.width ≡ circuit.now.inputs }
         ensures { IfOk result
-            (IsFullOf circuit.now classes.now start.now given.now.list work) }
+            (IsFullOf circuit.now classes.now start.now given.now.list chosen.now work) }
     {
         let sets = SetsBlock::new(alloc, circuit, start)?;
         let rails = RailsBlock::new(alloc, circuit, faults.len())?;
-        let known = known_of(alloc, circuit, faults, classes, start, given, seed)?;
+        let known = known_of(alloc, circuit, faults, classes, start, chosen, given, seed)?;
         Ok(FullSearch {
             known,
             order: Order::new(),
@@ -218,6 +219,7 @@ fn known_of<'c>(
     faults: &'c FaultList,
     classes: &'c Classes,
     start: &'c [Tern],
+    chosen: &'c [bool],
     given: &Vectors,
     seed: u64,
 ) -> Result<Known<'c>, AllocError>
@@ -225,9 +227,10 @@ fn known_of<'c>(
     requires classes { AreClasses circuit.now classes.now }
     requires latches { IsStart circuit.now start.now }
     requires width { given.now.width ≡ circuit.now.inputs }
-    ensures { IfOk result (IsKnownOf circuit.now classes.now start.now given.now.list) }
+    ensures is { IfOk result (IsKnownOf circuit.now classes.now start.now given.now.list) }
+    ensures chosen { IfOk result (λ known. known.chosen ≡ chosen.now) }
 {
-    let mut known = Known::new(alloc, circuit, faults, classes, start, seed)?;
+    let mut known = Known::new(alloc, circuit, faults, classes, start, chosen, seed)?;
     match known.apply(given) {
         Ok(()) => Ok(known),
         Err(error) => {
@@ -249,6 +252,7 @@ pub fn search<'c>(
     faults: &'c FaultList,
     classes: &'c Classes,
     start: &'c [Tern],
+    chosen: &'c [bool],
     given: &Vectors,
     seed: u64,
     work: u64,
@@ -257,10 +261,13 @@ pub fn search<'c>(
     requires classes { AreClasses circuit.now classes.now }
     requires latches { IsStart circuit.now start.now }
     requires width { given.now.width ≡ circuit.now.inputs }
-    ensures is { IfOk result (IsFullOf circuit.now classes.now start.now given.now.list work) }
+    ensures is { IfOk result
+        (IsFullOf circuit.now classes.now start.now given.now.list chosen.now work) }
     ensures at_end { IfOk result IsEnd }
 {
-    let mut search = FullSearch::new(alloc, circuit, faults, classes, start, given, seed, work)?;
+    let mut search = FullSearch::new(
+        alloc, circuit, faults, classes, start, chosen, given, seed, work,
+    )?;
     match search.run() {
         Ok(()) => Ok(search),
         Err(error) => {

@@ -6,7 +6,7 @@ ghost use Rattle.ht_faults.specs.Classes.{AreClasses, fault_at};
 ghost use Rattle.ht_sets.specs.Searches.{IsFamilyOf};
 ghost use Rattle.ht_close.specs.ClosedFaults.{ClosedHolds};
 ghost use Rattle.ht_verdicts.specs.Standing.{Decides};
-ghost use Rattle.ht_full.specs.Known.{AreOfOne, KnowsMore, IsKnownOf, IsStillOpen};
+ghost use Rattle.ht_full.specs.Known.{AreOfOne, KnowsMore, IsKnownOf, IsStillOpen, is_chosen};
 
 use ht_bred::{Bursts, Gain, append};
 use ht_close::Closed;
@@ -27,6 +27,8 @@ pub struct Known<'c> {
     faults: &'c FaultList,
     classes: &'c Classes,
     start: &'c [Tern],
+    // whether each fault is to be worked on
+    chosen: &'c [bool],
     verdicts: Verdicts<'c>,
     // all vectors so far
     vectors: Vectors,
@@ -44,6 +46,17 @@ impl<'c> Model for Known<'c> {
     ghost invariant = { AreKnownFields };
 }
 
+// The breeder looks for nothing that isn't chosen.
+fn leave_out_others(bursts: &mut Bursts, chosen: &[bool], faults: u32)
+    ensures { bursts.new ≡ bursts.old }
+{
+    for fault in 0..faults {
+        if chosen.get(fault as usize) != Some(&true) {
+            bursts.leave_out(fault);
+        }
+    }
+}
+
 impl<'c> Known<'c> {
     /// No vectors, and no entries.
     ///
@@ -56,6 +69,7 @@ impl<'c> Known<'c> {
         faults: &'c FaultList,
         classes: &'c Classes,
         start: &'c [Tern],
+        chosen: &'c [bool],
         seed: u64,
     ) -> Result<Known<'c>, AllocError>
         requires faults { faults.now ≡ faults_of circuit.now }
@@ -63,8 +77,10 @@ impl<'c> Known<'c> {
         requires latches { IsStart circuit.now start.now }
         ensures is { IfOk result (IsKnownOf circuit.now classes.now start.now []) }
         ensures vectors { IfOk result (λ known. known.vectors.list ≡ []) }
+        ensures chosen { IfOk result (λ known. known.chosen ≡ chosen.now) }
     {
-        let bursts = Bursts::new(alloc, circuit, faults, classes, seed)?;
+        let mut bursts = Bursts::new(alloc, circuit, faults, classes, seed)?;
+        leave_out_others(&mut bursts, chosen, faults.len());
         match Verdicts::new(alloc, circuit, faults, classes, start) {
             Ok(verdicts) => Ok(Known {
                 alloc,
@@ -72,6 +88,7 @@ impl<'c> Known<'c> {
                 faults,
                 classes,
                 start,
+                chosen,
                 verdicts,
                 vectors: Vectors::new(alloc, circuit.inputs()),
                 bursts,
@@ -129,7 +146,17 @@ impl<'c> Known<'c> {
         &self.vectors
     }
 
-    /// Whether a fault represents its class, isn't detected by the vectors so far, and has no entry.
+    // Whether a fault is to be worked on.
+    fn is_chosen(&self, fault: u32) -> bool
+        ensures { result ≡ is_chosen self.now fault }
+    {
+        match self.chosen.get(fault as usize) {
+            Some(chosen) => *chosen,
+            None => false,
+        }
+    }
+
+    /// Whether a fault was chosen, represents its class, isn't detected by the vectors so far, and has no entry.
     pub fn is_open(&self, fault: u32) -> bool
         ensures { IsTrue result ↔ IsStillOpen self.now fault }
     {
@@ -137,6 +164,9 @@ impl<'c> Known<'c> {
             return false;
         }
         if self.classes.of(fault) != fault {
+            return false;
+        }
+        if !self.is_chosen(fault) {
             return false;
         }
         self.verdicts.is_open(fault)

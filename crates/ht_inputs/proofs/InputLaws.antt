@@ -127,7 +127,7 @@ error_port error = None
 pub port_is : (a : Asked) (e : RunError) (port : InPort) → refused_port a e ≡ Some port → error_port e ≡ Some port
 port_is a (BadStart line) port at = (at_port (may_state_start a) Extra port at).1
 port_is a (BadTests line) port at = (at_other (judges a.command) Tests port at).1
-port_is a TooManyVectors port at = (at_port (takes_few a.command) Tests port at).1
+port_is a TooManyVectors port at = (at_port (takes_few a.command a.numbers.runs) Tests port at).1
 port_is a (BadResponses line) port at = (at_other (may_state_start a) Extra port at).1
 port_is a (Denied found) port at = (at_port (judges a.command) (trouble_port found) port at).1
 port_is a e port at = at
@@ -140,9 +140,9 @@ trouble_at (trouble.Report line) port is at =
 trouble_at found port is at = let same : port ≡ Proofs = cc in absurd (subst IsText same is)
 
 -- what takes few vectors judges no proofs
-few_judge_none : (kind : Kind) → takes_few kind ≡ true → judges kind ≡ true → ⊥
-few_judge_none compact few judged = cc
-few_judge_none kind few judged = cc
+few_judge_none : (kind : Kind) (runs : Option ℕ) → takes_few kind runs ≡ true → judges kind ≡ true → ⊥
+few_judge_none compact runs few judged = cc
+few_judge_none kind runs few judged = cc
 
 -- ---- a text that is refused doesn't say a basis
 
@@ -188,11 +188,12 @@ never a text b basis Extra (BadResponses line) is at same good lists wrong says 
     let may = (at_other (may_state_start a) Extra Extra at).0 in
     no_rows text b.circuit basis same (may_state_start a) may b.content.list (lists may refl) line wrong says
 never a text b basis Tests (BadTests line) is at same good lists wrong says =
-    no_vectors text b.circuit basis same (takes_few a.command) line wrong says
+    no_vectors text b.circuit basis same (takes_few a.command a.numbers.runs) line wrong says
 never a text b basis Tests TooManyVectors is at same good lists wrong says =
-    no_few text b.circuit basis same (takes_few a.command) (at_port (takes_few a.command) Tests Tests at).0 wrong says
+    no_few text b.circuit basis same (takes_few a.command a.numbers.runs)
+    (at_port (takes_few a.command a.numbers.runs) Tests Tests at).0 wrong says
 never a text b basis Tests (Denied (trouble.Tests line)) is at same good lists wrong says =
-    no_tests text b.circuit basis same (takes_few a.command) line wrong says
+    no_tests text b.circuit basis same (takes_few a.command a.numbers.runs) line wrong says
 never a text b basis Faults (BadFaults line) is at same good lists wrong says =
     let few = lines_few basis.circuit good in
     (fault_list_or_malformed (length (faults_of basis.circuit)) text (omega (arith, few))).never_both basis.chosen line
@@ -235,7 +236,7 @@ module _ (j : Job) (texts : InPort → List ℕ) {port : InPort} {status : ℕ} 
           let before : order_of (asked_by j) Tests < order_of (asked_by j) port =
           omega (arith, place.1, ap (order_of (asked_by j)) at) in
           let same = one_circuit (texts Netlist) r.basis.circuit basis.circuit r.circuit.stands good.stands in
-          let few = takes_few (asked_by j).command in
+          let few = takes_few (asked_by j).command (asked_by j).numbers.runs in
           one_list basis.circuit (texts Tests) r.basis.content.list basis.content.list
           (subst (λ (c : net.Netlist). IsTestText c (texts Tests) r.basis.content.list) same
           (vectors_said few r.basis (texts Tests) (r.before Tests n place.0 before named)))
@@ -505,14 +506,18 @@ same_status : (a : Asked) (text : List ℕ) (port : InPort) (b d : JobBasis) (e 
     → refused_port a e ≡ Some port → refused_port a f ≡ Some port → b.circuit ≡ d.circuit → IsText port
     → IsRefusedFor a b e text → IsRefusedFor a d f text → exit_status e ≡ exit_status f
 same_status a text port b d (BadTests line) TooManyVectors x y same is p q = absurd (early_or_many
-    (takes_few a.command) b.circuit d.circuit text line (at_port (takes_few a.command) Tests port y).0 same p q)
+    (takes_few a.command a.numbers.runs) b.circuit d.circuit text line
+    (at_port (takes_few a.command a.numbers.runs) Tests port y).0 same p q)
 same_status a text port b d TooManyVectors (BadTests line) x y same is p q = absurd (early_or_many
-    (takes_few a.command) d.circuit b.circuit text line (at_port (takes_few a.command) Tests port x).0 (sym same) q p)
+    (takes_few a.command a.numbers.runs) d.circuit b.circuit text line
+    (at_port (takes_few a.command a.numbers.runs) Tests port x).0 (sym same) q p)
 same_status a text port b d (Denied t) (Denied u) x y same is p q = refl
-same_status a text port b d (Denied t) TooManyVectors x y same is p q = absurd (few_judge_none a.command
-    (at_port (takes_few a.command) Tests port y).0 (at_port (judges a.command) (trouble_port t) port x).0)
-same_status a text port b d TooManyVectors (Denied t) x y same is p q = absurd (few_judge_none a.command
-    (at_port (takes_few a.command) Tests port x).0 (at_port (judges a.command) (trouble_port t) port y).0)
+same_status a text port b d (Denied t) TooManyVectors x y same is p q = absurd (few_judge_none a.command a.numbers.runs
+    (at_port (takes_few a.command a.numbers.runs) Tests port y).0
+    (at_port (judges a.command) (trouble_port t) port x).0)
+same_status a text port b d TooManyVectors (Denied t) x y same is p q = absurd (few_judge_none a.command a.numbers.runs
+    (at_port (takes_few a.command a.numbers.runs) Tests port x).0
+    (at_port (judges a.command) (trouble_port t) port y).0)
 same_status a text port b d (Denied t) (BadTests line) x y same is p q =
     let yes = (at_port (judges a.command) (trouble_port t) port x).0 in
     let no = (at_other (judges a.command) Tests port y).0 in cc
@@ -610,7 +615,8 @@ module _ (j : Job) (texts : InPort → List ℕ) where
           (subst (λ (p : InPort). IsRefusedFor a y.basis (BadStart line) (texts p)) same refused))
       by (BadTests line) at refused = let none = (at_other (judges a.command) Tests q at).0 in cc
       by TooManyVectors at refused =
-          absurd (few_judge_none a.command (at_port (takes_few a.command) Tests q at).0 judged)
+          absurd (few_judge_none a.command a.numbers.runs
+          (at_port (takes_few a.command a.numbers.runs) Tests q at).0 judged)
       by (BadResponses line) at refused = let none = (at_other (may_state_start a) Extra q at).0 in cc
       by (BadFaults line) at refused =
           let none : input_name a q ≡ None = (let same : q ≡ Faults = cc in ap (input_name a) same ∙ unlisted) in cc

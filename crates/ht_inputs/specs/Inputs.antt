@@ -97,10 +97,14 @@ SaysCircuit true basis text = IsGoodNetlist text basis.circuit
     × AreClasses basis.circuit basis.representatives
 SaysCircuit false basis text = IsGoodNetlist text basis.circuit
 
--- what the tests say: the vectors, which may be few or any
+-- the text is that of these vectors, which may be few or any
+abbrev pub AreTests : Bool → net.Netlist → List ℕ → List (List Bool) → Type 0
+AreTests true c text list = IsTestTextToCompact c text list
+AreTests false c text list = IsTestText c text list
+
+-- what the tests say: the vectors
 abbrev pub SaysVectors : Bool → JobBasis → List ℕ → Type 0
-SaysVectors true basis text = IsTestTextToCompact basis.circuit text basis.content.list
-SaysVectors false basis text = IsTestText basis.circuit text basis.content.list
+SaysVectors few basis text = AreTests few basis.circuit text basis.content.list
 
 -- what a further text says: the start, or else the responses
 abbrev pub SaysExtra : Bool → JobBasis → List ℕ → Type 0
@@ -119,7 +123,7 @@ SaysProofs kind budget basis text = AreGoodProofs basis.circuit basis.representa
 -- The text of a job's file says its part of the basis.
 abbrev pub SaysBasis : Asked → JobBasis → InPort → List ℕ → Type 0
 SaysBasis job basis Netlist text = SaysCircuit (judges job.command) basis text
-SaysBasis job basis Tests text = SaysVectors (takes_few job.command) basis text
+SaysBasis job basis Tests text = SaysVectors (takes_few job.command job.numbers.runs) basis text
 SaysBasis job basis Extra text = SaysExtra (may_state_start job) basis text
 SaysBasis job basis Faults text = IsFaultListText (length (faults_of basis.circuit)) text
     basis.chosen

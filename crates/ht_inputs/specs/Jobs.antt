@@ -30,10 +30,11 @@ judges check = true
 judges report = true
 judges kind = false
 
--- the command takes only so many vectors as are compacted
-abbrev pub takes_few : Kind → Bool
-takes_few compact = true
-takes_few kind = false
+-- the command takes only few vectors, where the words don't say what the longest run is that is left out of them at
+-- once
+abbrev pub takes_few : Kind → Option ℕ → Bool
+takes_few compact None = true
+takes_few kind runs = false
 
 -- the place of a port in the order of reading: what the port Extra has is read before the tests where it is a start, and
 -- after them else

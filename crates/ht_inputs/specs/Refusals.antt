@@ -51,7 +51,8 @@ refused_port job TooLong = Some Netlist
 refused_port job (Refused error) = Some Netlist
 refused_port job (BadStart line) = if may_state_start job then Some Extra else None
 refused_port job (BadTests line) = if judges job.command then None else Some Tests
-refused_port job TooManyVectors = if takes_few job.command then Some Tests else None
+refused_port job TooManyVectors =
+    if takes_few job.command job.numbers.runs then Some Tests else None
 refused_port job (BadResponses line) = if may_state_start job then None else Some Extra
 refused_port job (BadFaults line) = Some Faults
 refused_port job (Denied found) = if judges job.command then Some (trouble_port found) else None
@@ -84,8 +85,8 @@ abbrev pub IsRefusedFor : Asked → JobBasis → RunError → List ℕ → Type 
 IsRefusedFor job basis TooLong text = max_netlist_bytes < length text
 IsRefusedFor job basis (Refused error) text = IsRefused error text
 IsRefusedFor job basis (BadStart line) text = IsMalformedStart (length basis.circuit.dffs) text line
-IsRefusedFor job basis (BadTests line) text = IsWrongTest (takes_few job.command) basis.circuit text
-    line
+IsRefusedFor job basis (BadTests line) text =
+    IsWrongTest (takes_few job.command job.numbers.runs) basis.circuit text line
 IsRefusedFor job basis TooManyVectors text = HasTooManyVectors basis.circuit text
 IsRefusedFor job basis (BadResponses line) text =
     IsMalformedResponse (length basis.circuit.outputs) (length basis.content.list) text line

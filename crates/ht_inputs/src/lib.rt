@@ -34,4 +34,4 @@ pub use report_file::read_report;
 pub use responses_file::read_responses;
 pub use run_error::RunError;
 pub use start_file::read_stated;
-pub use vectors_file::{read_few_tests, read_first, read_tests};
+pub use vectors_file::{read_first, read_tests, read_tests_to_compact};

@@ -7,8 +7,8 @@ ghost use Rattle.ht_net.specs.Circuit.Netlist.{IsCircuit};
 ghost use Rattle.ht_texts.specs.Tests.{IsTextOf};
 ghost use Rattle.ht_compact.specs.TestsToCompact.{IsTestTextToCompact};
 ghost use Rattle.ht_asked.specs.Asked.{Asked};
-ghost use Rattle.ht_asked.specs.Table.{gen};
-ghost use Rattle.ht_inputs.specs.Inputs.{AreVectorsOf, HasFault, JobBasis, WasRead};
+ghost use Rattle.ht_asked.specs.Table.{compact, gen};
+ghost use Rattle.ht_inputs.specs.Inputs.{AreTests, AreVectorsOf, HasFault, JobBasis, WasRead};
 ghost use Rattle.ht_inputs.specs.Jobs.{input_name, takes_few};
 ghost use Rattle.ht_inputs.specs.Reading.{AreVectorsUpTo, EndsReading, HasReadTo, ReadStops, TestsStop};
 
@@ -113,12 +113,9 @@ pub fn read_tests<D: Desk>(
     Ok(reader.list)
 }
 
-/// Opens the tests and reads the vectors that are compacted. Where there are more, one more is read, and no further line.
-///
-/// # Errors
-/// - Those of `read_tests`.
-/// - `TooManyVectors`: the tests begin with more vectors than are compacted.
-pub fn read_few_tests<D: Desk>(
+// Opens the tests and reads the few vectors that are compacted. Where there are more, one more is read, and no further
+// line: `TooManyVectors`.
+fn read_few_tests<D: Desk>(
     alloc: Global,
     desk: &mut D,
     name: &str,
@@ -130,7 +127,7 @@ pub fn read_few_tests<D: Desk>(
         (λ text. IsTestTextToCompact circuit.now text list.list) (D.view desk.old)) }
     ensures width { IfOk result (λ list. list.width ≡ circuit.now.inputs) }
     ensures widths { IfOk result (λ list. AreVectorsOf circuit.now list.list) }
-    ensures stops { (job : Asked) (basis : JobBasis) → takes_few job.command ≡ true
+    ensures stops { (job : Asked) (basis : JobBasis) → takes_few job.command job.numbers.runs ≡ true
         → basis.circuit ≡ circuit.now → IfErr result
         (ReadStops job basis in_port.Tests name.now (D.view desk.old) (D.view desk.new)) }
 {
@@ -139,6 +136,36 @@ pub fn read_few_tests<D: Desk>(
         return Err(RunError::TooManyVectors);
     }
     Ok(list)
+}
+
+/// Opens the tests of `compact` and reads their vectors, which are to be few or may be any.
+///
+/// # Errors
+/// - Those of `read_tests`.
+/// - `TooManyVectors`: they are to be few, and the tests begin with more vectors than are compacted.
+pub fn read_tests_to_compact<D: Desk>(
+    alloc: Global,
+    desk: &mut D,
+    name: &str,
+    circuit: &Circuit,
+    few: bool,
+) -> Result<Vectors, RunError>
+    requires { IsCircuit circuit.now }
+    ensures frame { InCall in_port.Tests (D.view desk.old) (D.view desk.new) }
+    ensures read { IfOk result (λ list. WasRead in_port.Tests name.now
+        (λ text. AreTests few circuit.now text list.list) (D.view desk.old)) }
+    ensures width { IfOk result (λ list. list.width ≡ circuit.now.inputs) }
+    ensures widths { IfOk result (λ list. AreVectorsOf circuit.now list.list) }
+    ensures stops { (job : Asked) (basis : JobBasis) → job.command ≡ compact
+        → takes_few job.command job.numbers.runs ≡ few → basis.circuit ≡ circuit.now
+        → IfErr result
+        (ReadStops job basis in_port.Tests name.now (D.view desk.old) (D.view desk.new)) }
+{
+    if few {
+        read_few_tests(alloc, desk, name, circuit)
+    } else {
+        read_tests(alloc, desk, name, circuit, u64::MAX)
+    }
 }
 
 /// The vectors that the user gives to `gen`, read from their file; without one there are none, and the desk isn't called.

@@ -1,15 +1,16 @@
 //! The verdicts so far.
-ghost use Rattle.std.specs.Prelude.{◌≡◌, ◌↔◌, ◌<◌, ◌++◌, [], List, Bool, IsTrue, Some, None, length, slice_set, IfOk, IfSome, OnOk, OnErr};
+ghost use Rattle.std.specs.Prelude.{◌≡◌, ◌↔◌, ◌<◌, ◌++◌, [], List, Bool, IsTrue, Some, None, is_some, length, slice_set, IfOk, IfSome, OnOk, OnErr};
 ghost use Rattle.ht_tern.specs.declared.tern.Tern as tern;
 ghost use Rattle.ht_net.specs.Detect.Detection.{IsStart};
 ghost use Rattle.ht_faults.specs.Sites.{faults_of};
 ghost use Rattle.ht_faults.specs.Classes.{AreClasses};
 ghost use Rattle.ht_proofs.specs.Detections.{place_at};
+ghost use Rattle.ht_texts.specs.Verdicts.{IsSayable};
 ghost use Rattle.ht_proofs.specs.ClassGraderView.{ClassGraderStandsFor};
 ghost use Rattle.ht_valid.specs.ValidFiles.{Content, IsJustified, IsOwn, said_by_kind};
 ghost use Rattle.ht_verdicts.specs.Contents.{IsContentOf};
 ghost use Rattle.ht_verdicts.specs.Kept.{kept_text};
-ghost use Rattle.ht_verdicts.specs.Standing.{AreNone, Decides, HasNoVerdict, entry_at, said_by_entry};
+ghost use Rattle.ht_verdicts.specs.Standing.{AllDecide, AreNone, Decides, HasNoVerdict, entry_at, said_by_entry};
 
 use ht_entries::write_entry;
 use ht_faults::{Classes, FaultList};
@@ -168,6 +169,7 @@ impl<'c> Verdicts<'c> {
             (λ place. result ≡ Said.Detected place) }
         ensures undetected { place_at self.now.grader.places fault ≡ None
             → result ≡ said_by_entry (entry_at self.now fault) }
+        ensures sayable { IsSayable self.now.circuit result }
     {
         match self.grader.verdict(fault) {
             Some(place) => Said::Detected(place),
@@ -175,6 +177,16 @@ impl<'c> Verdicts<'c> {
                 Some(entry) => said_by_entry(entry),
                 None => Said::Undetected,
             },
+        }
+    }
+
+    /// Whether a fault has an entry, by its number from 0.
+    pub fn has_entry(&self, fault: u32) -> bool
+        ensures { result ≡ is_some (entry_at self.now fault) }
+    {
+        match self.entries.get(fault as usize) {
+            Some(entry) => entry.is_some(),
+            None => false,
         }
     }
 
@@ -193,6 +205,17 @@ impl<'c> Verdicts<'c> {
             Some(None) => Ok(Vec::new(alloc)),
             None => Ok(Vec::new(alloc)),
         }
+    }
+
+    /// A law: there is room for an entry of each fault, and each entry that is kept decides its fault.
+    pub fn entries_decide(&self)
+        ensures room { length self.now.entries ≡ length self.now.representatives }
+        ensures decide { AllDecide self.now }
+        ensures classes { AreClasses self.now.circuit self.now.representatives }
+        ensures latches { IsStart self.now.circuit self.now.start }
+    {
+        // for the proof: each entry that is kept decides its fault
+        let _ = &self.entries;
     }
 
     /// A law: what files say is justified where they say what the verdicts do.

@@ -7,9 +7,11 @@ use Rattle.ht_asked.specs.Forms.{Part, given, given_by, fits_form, is_among, opt
 use Rattle.ht_asked.specs.Asked.{Asked, InNames, Numbers, OutNames, makes_nothing, reads_nothing, unsaid}
 use Rattle.ht_asked.specs.Table.{Kind}
 use Rattle.ht_asked.specs.Table.{sim, gen, check, norm, demo, compact, diagnose, uninit, sync, respond, report, breed, causes}
-use Rattle.ht_asked.specs.Commands.{Command, asked, bred_of, budget_of, command_of, deep_of, demo_size, fault_of}
+use Rattle.ht_asked.specs.Commands.{Command, asked, bred_of, budget_of, command_of, demo_size, depth_of, fault_of}
 use Rattle.ht_asked.specs.Table.{kinds}
-use Rattle.ht_asked.specs.Commands.{numbers_with, random_of, seed_of}
+use Rattle.ht_asked.specs.Commands.{numbers_with, random_of, runs_of, seed_of, work_of}
+use Rattle.ht_asked.specs.declared.depth.Depth.{Depth}
+use Rattle.ht_asked.specs.declared.depth.Depth.TheVariants.{Plain}
 use Rattle.ht_words.specs.Jobs.{asked_by}
 use Rattle.ht_words.specs.declared.job.Job.{Job}
 use Rattle.ht_words.specs.declared.job.Job.TheVariants as job
@@ -31,13 +33,13 @@ asks_for kind names value =
     (command_of kind).asks (record { positionals = names; options = option_texts (command_of kind).form value })
 
 by_gen : (n t r p : Text) (start first faults : Option Text) (budget random weighted seed : Option ℕ)
-    (deep : Option Bool) → AsksForJob (option_map (λ (numbers : Numbers). record {
+    (depth : Option Depth) (work : Option ℕ) → AsksForJob (option_map (λ (numbers : Numbers). record {
       command = gen;
       reads = record { netlist = Some n; tests = first; report = None; proofs = None; faults = faults; extra = start };
       makes = record { tests = Some t; report = Some r; proofs = Some p };
       numbers = numbers;
-    }) (numbers_with budget random weighted (Some 2000) seed deep (Some None) (Some 1) false))
-by_gen n t r p start first faults (Some b) (Some x) (Some w) (Some s) (Some d) = (
+    }) (numbers_with budget random weighted (Some 2000) seed depth work (Some None) (Some None) (Some 1) false))
+by_gen n t r p start first faults (Some b) (Some x) (Some w) (Some s) (Some d) (Some k) = (
   job.Gen (files_of n t r p) (record {
     budget = b;
     random = x;
@@ -46,11 +48,12 @@ by_gen n t r p start first faults (Some b) (Some x) (Some w) (Some s) (Some d) =
     first = first;
     faults = faults;
     weighted = w;
-    deep = d;
+    depth = d;
+    work = k;
   }),
   refl,
 )
-by_gen n t r p start first faults _ _ _ _ _ = tt
+by_gen n t r p start first faults _ _ _ _ _ _ = tt
 
 -- the job of a budget alone
 by_budget : (j : ℕ → Job) (kind : Kind) (reads : InNames) (makes : OutNames)
@@ -58,13 +61,15 @@ by_budget : (j : ℕ → Job) (kind : Kind) (reads : InNames) (makes : OutNames)
     ≡ record { command = kind; reads = reads; makes = makes; numbers = record unsaid { budget = b } })
     → (budget : Option ℕ) → AsksForJob (option_map
     (λ (numbers : Numbers). record { command = kind; reads = reads; makes = makes; numbers = numbers })
-    (numbers_with budget (Some 0) (Some 0) (Some 2000) (Some 0) (Some false) (Some None) (Some 1) false))
+    (numbers_with budget (Some 0) (Some 0) (Some 2000) (Some 0) (Some Plain) (Some 60) (Some None) (Some None) (Some 1)
+    false))
 by_budget j kind reads makes is (Some b) = (j b, is b)
 by_budget j kind reads makes is None = tt
 
 by_demo : (seed size : Option ℕ) → AsksForJob (option_map
     (λ (numbers : Numbers). record { command = demo; reads = reads_nothing; makes = makes_nothing; numbers = numbers })
-    (numbers_with (Some 1000) (Some 0) (Some 0) (Some 2000) seed (Some false) (Some None) size false))
+    (numbers_with (Some 1000) (Some 0) (Some 0) (Some 2000) seed (Some Plain) (Some 60) (Some None) (Some None) size
+    false))
 by_demo (Some s) (Some z) = (job.Demo z s, refl)
 by_demo _ _ = tt
 
@@ -74,9 +79,21 @@ by_fault : (n t o : Text) (start : Option Text) (lines : Bool) (fault : Option (
       reads = record reads_nothing { netlist = Some n; tests = Some t; extra = start };
       makes = record makes_nothing { report = Some o };
       numbers = numbers;
-    }) (numbers_with (Some 1000) (Some 0) (Some 0) (Some 2000) (Some 0) (Some false) fault (Some 1) lines))
+    }) (numbers_with (Some 1000) (Some 0) (Some 0) (Some 2000) (Some 0) (Some Plain) (Some 60) fault (Some None)
+    (Some 1) lines))
 by_fault n t o start lines (Some f) = (job.Respond n t o f start lines, refl)
 by_fault n t o start lines None = tt
+
+by_runs : (n t o : Text) (runs : Option (Option ℕ)) → AsksForJob (option_map
+    (λ (numbers : Numbers). record {
+      command = compact;
+      reads = record reads_nothing { netlist = Some n; tests = Some t };
+      makes = record makes_nothing { tests = Some o };
+      numbers = numbers;
+    }) (numbers_with (Some 1000) (Some 0) (Some 0) (Some 2000) (Some 0) (Some Plain) (Some 60) (Some None) runs (Some 1)
+    false))
+by_runs n t o (Some r) = (job.Compact n t o r, refl)
+by_runs n t o None = tt
 
 by_breed : (n t o : Text) (start : Option Text) (bred seed : Option ℕ) → AsksForJob (option_map
     (λ (numbers : Numbers). record {
@@ -84,7 +101,8 @@ by_breed : (n t o : Text) (start : Option Text) (bred seed : Option ℕ) → Ask
       reads = record reads_nothing { netlist = Some n; tests = Some t; extra = start };
       makes = record makes_nothing { tests = Some o };
       numbers = numbers;
-    }) (numbers_with (Some 1000) (Some 0) (Some 0) bred seed (Some false) (Some None) (Some 1) false))
+    }) (numbers_with (Some 1000) (Some 0) (Some 0) bred seed (Some Plain) (Some 60) (Some None) (Some None) (Some 1)
+    false))
 by_breed n t o start (Some b) (Some s) = (
   job.Breed (record { netlist = n; tests = t; out = o }) (record { vectors = b; seed = s; start = start }),
   refl,
@@ -95,11 +113,11 @@ by_names : (kind : Kind) (names : List Text) (v : Text → Option Text) → Asks
 by_names sim (n ∷ t ∷ r ∷ []) v = (job.Sim n t r (v (codes "start")), refl)
 by_names gen (n ∷ t ∷ r ∷ p ∷ []) v = by_gen n t r p (v (codes "start")) (v (codes "first")) (v (codes "faults"))
     (budget_of (v (codes "budget"))) (random_of (v (codes "random"))) (random_of (v (codes "weighted")))
-    (seed_of (v (codes "seed"))) (deep_of (v (codes "search")))
+    (seed_of (v (codes "seed"))) (depth_of (v (codes "search"))) (work_of (v (codes "work")))
 by_names check (n ∷ t ∷ r ∷ p ∷ []) v = (job.Check (files_of n t r p) (v (codes "start")), refl)
 by_names norm (n ∷ o ∷ []) v = (job.Norm n o, refl)
 by_names demo (z ∷ s ∷ []) v = by_demo (seed_of (Some s)) (demo_size (Some z))
-by_names compact (n ∷ t ∷ o ∷ []) v = (job.Compact n t o, refl)
+by_names compact (n ∷ t ∷ o ∷ []) v = by_runs n t o (runs_of (v (codes "runs")))
 by_names diagnose (n ∷ t ∷ r ∷ o ∷ []) v = (job.Diagnose n t r o, refl)
 by_names uninit (n ∷ o ∷ []) v = by_budget (job.Uninit n o) uninit (record reads_nothing { netlist = Some n })
     (record makes_nothing { report = Some o }) (λ b. refl) (budget_of (v (codes "budget")))

@@ -5,7 +5,7 @@ use Rattle.ht_asked.specs.declared.limits.TheConstants.{DEFAULT_BRED, MAX_SEED, 
 use Rattle.ht_asked.specs.Asked.{Asked, Numbers, OutNames, makes_nothing, reads_nothing, unsaid}
 use Rattle.ht_asked.specs.Table.{sim, gen, check, norm, demo, compact, diagnose, uninit, sync, respond, report, breed, causes}
 use Rattle.ht_asked.specs.ByClap.{all_of}
-use Rattle.ht_asked.specs.Commands.{budget_of, deep_of, numbers_with, random_of, seed_of}
+use Rattle.ht_asked.specs.Commands.{budget_of, depth_of, numbers_with, random_of, seed_of, work_of}
 use Rattle.ht_asked.specs.Numbers.{number_in}
 use Rattle.ht_words.specs.declared.job.GenOptions.{GenOptions}
 use Rattle.ht_words.specs.declared.job.Job.{Job}
@@ -21,7 +21,8 @@ numbers_by o = record unsaid {
   random = o.random;
   weighted = o.weighted;
   seed = o.seed;
-  deep = o.deep;
+  depth = o.depth;
+  work = o.work;
 }
 
 -- the numbers that the options of `gen` say in the rows in which `clap` gives the values, where each is one
@@ -29,7 +30,8 @@ abbrev pub numbers_in : List Row → Option Numbers
 numbers_in rows = numbers_with (budget_of (first_of (codes "budget") rows))
     (random_of (first_of (codes "random") rows)) (random_of (first_of (codes "weighted") rows))
     (Some DEFAULT_BRED) (seed_of (first_of (codes "seed") rows))
-    (deep_of (first_of (codes "search") rows)) (Some None) (Some MIN_SIZE) false
+    (depth_of (first_of (codes "search") rows)) (work_of (first_of (codes "work") rows)) (Some None)
+    (Some None) (Some MIN_SIZE) false
 
 -- the names of the files of a run in the rows, where none is missing
 abbrev pub files_in : List Row → Option (List Text)
@@ -91,11 +93,11 @@ asked_by (job.Demo size seed) = record {
   makes = makes_nothing;
   numbers = record unsaid { size = size; seed = seed };
 }
-asked_by (job.Compact netlist tests out) = record {
+asked_by (job.Compact netlist tests out runs) = record {
   command = compact;
   reads = record reads_nothing { netlist = Some netlist; tests = Some tests };
   makes = record makes_nothing { tests = Some out };
-  numbers = unsaid;
+  numbers = record unsaid { runs = runs };
 }
 asked_by (job.Diagnose netlist tests responses out) = record {
   command = diagnose;

@@ -8,7 +8,7 @@ ghost use Rattle.ht_words.specs.Arguments.{arguments_form};
 ghost use Rattle.ht_words.specs.Jobs.{IsAnswer, demo_in};
 
 use crate::job::{BreedFiles, BreedOptions, Job, WordsFault, gen_options, run_files};
-use crate::number::{bred, budget, fault_number, seed, size, wanted_number};
+use crate::number::{bred, budget, fault_number, runs, seed, size, wanted_number};
 use crate::value::{is_set, optional_value, value};
 use clap::ArgMatches;
 use ht_asked::MAX_SEED;
@@ -30,38 +30,32 @@ pub fn arguments_of(word: &str) -> Option<Arguments>
     ensures { option_map (λ a. app_with word.now (arguments_form a)) result
         ≡ option_map (λ c. app_with c.name c.form) (command_named word.now) }
 {
+    let tests_out: &[&str] = &["netlist", "tests", "out"];
     let (positionals, options, flags): (&[&str], &[&str], &[&str]) = match word {
         "sim" => (&["netlist", "tests", "report"], &["start"], &[]),
         "gen" => (
             &["netlist", "tests", "report", "proofs"],
             &[
                 "budget", "random", "seed", "start", "first", "faults", "weighted", "search",
+                "work",
             ],
             &[],
         ),
         "check" => (&["netlist", "tests", "report", "proofs"], &["start"], &[]),
         "norm" => (&["netlist", "out"], &[], &[]),
         "demo" => (&["size", "seed"], &[], &[]),
-        "compact" => (&["netlist", "tests", "out"], &[], &[]),
+        "compact" => (tests_out, &["runs"], &[]),
         "diagnose" => (&["netlist", "tests", "responses", "out"], &[], &[]),
         "uninit" => (&["netlist", "out"], &["budget"], &[]),
-        "sync" => (&["netlist", "tests", "out"], &["budget"], &[]),
-        "respond" => (
-            &["netlist", "tests", "out"],
-            &["fault", "start"],
-            &["lines"],
-        ),
+        "sync" => (tests_out, &["budget"], &[]),
+        "respond" => (tests_out, &["fault", "start"], &["lines"]),
         "report" => (
             &["netlist", "tests", "proofs", "report"],
             &["budget", "start"],
             &[],
         ),
-        "breed" => (
-            &["netlist", "tests", "out"],
-            &["vectors", "seed", "start"],
-            &[],
-        ),
-        "causes" => (&["netlist", "tests", "out"], &["start"], &[]),
+        "breed" => (tests_out, &["vectors", "seed", "start"], &[]),
+        "causes" => (tests_out, &["start"], &[]),
         _ => return None,
     };
     Some(Arguments {
@@ -154,7 +148,8 @@ fn compact_job(alloc: Global, matches: &ArgMatches<'_>) -> Result<Job, WordsFaul
     ensures { IsAnswer (asked_in_rows (command_of kind.compact) (rows_of (found_of matches.now)))
         result }
 {
-    with_values!(alloc, matches => Compact { netlist, tests, out })
+    let runs = runs(matches)?;
+    with_values!(alloc, matches => Compact { netlist, tests, out; runs })
 }
 
 // The job of `diagnose`.

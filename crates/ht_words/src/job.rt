@@ -1,14 +1,15 @@
 //! What words ask for, and how what several files and options say is read.
 ghost use Rattle.std.specs.Prelude.{◌≡◌, IfOk, codes};
 ghost use Rattle.clap.specs.Words.{first_of, found_of, rows_of};
-ghost use Rattle.ht_asked.specs.Commands.{deep_of};
+ghost use Rattle.ht_asked.specs.Commands.{depth_of};
 ghost use Rattle.ht_words.specs.Jobs.{IsReadAs, Hears, files_in, numbers_by, numbers_in, run_names};
 ghost use Rattle.ht_words.specs.declared.job.WordsFault.TheVariants as fault;
 
 use crate::file_name::FileName;
-use crate::number::{budget, random, seed};
+use crate::number::{budget, random, seed, work};
 use crate::value::{given_text, optional_value, value};
 use clap::ArgMatches;
+use ht_asked::Depth;
 use std::alloc::{AllocError, Global};
 use thiserror::Error;
 
@@ -42,8 +43,10 @@ pub struct GenOptions {
     pub faults: Option<FileName>,
     /// How many weighted vectors come after the random ones, 0 to 100,000.
     pub weighted: u32,
-    /// Whether the search is deep.
-    pub deep: bool,
+    /// How far the search goes.
+    pub depth: Depth,
+    /// The work of a full search, 1 to 1,000,000.
+    pub work: u64,
 }
 
 /// The names of the files of `breed`.
@@ -118,6 +121,8 @@ pub enum Job {
         tests: FileName,
         /// The compacted tests to write.
         out: FileName,
+        /// The longest run of tests that is left out at once, 1 to 64; without it one test, of few tests.
+        runs: Option<u64>,
     },
     /// Says which of the netlist's faults aren't contradicted by the responses to the tests.
     Diagnose {
@@ -243,7 +248,8 @@ pub fn gen_options(alloc: Global, matches: &ArgMatches<'_>) -> Result<GenOptions
     let random_count = random(matches, "random")?;
     let seed = seed(matches)?;
     let weighted = random(matches, "weighted")?;
-    let deep = deep(matches)?;
+    let depth = depth(matches)?;
+    let work = work(matches)?;
     Ok(GenOptions {
         budget,
         random: random_count,
@@ -252,20 +258,22 @@ pub fn gen_options(alloc: Global, matches: &ArgMatches<'_>) -> Result<GenOptions
         first: optional_value(alloc, matches, "first")?,
         faults: optional_value(alloc, matches, "faults")?,
         weighted,
-        deep,
+        depth,
+        work,
     })
 }
 
-// Whether the search is deep: the option's value is `plain` or `deep`.
-fn deep(matches: &ArgMatches<'_>) -> Result<bool, WordsFault>
-    ensures { Hears (deep_of (first_of (codes "search") (rows_of (found_of matches.now)))) result }
+// How far the search goes: the option's value is `plain`, `deep` or `full`.
+fn depth(matches: &ArgMatches<'_>) -> Result<Depth, WordsFault>
+    ensures { Hears (depth_of (first_of (codes "search") (rows_of (found_of matches.now)))) result }
 {
     let Some(text) = given_text(matches, "search") else {
-        return Ok(false);
+        return Ok(Depth::Plain);
     };
     match text {
-        "plain" => Ok(false),
-        "deep" => Ok(true),
+        "plain" => Ok(Depth::Plain),
+        "deep" => Ok(Depth::Deep),
+        "full" => Ok(Depth::Full),
         _ => Err(WordsFault::Usage),
     }
 }

@@ -1,7 +1,7 @@
 //! Numbers among the words: as their text, and as the values that `clap` found.
 ghost use Rattle.std.specs.Prelude.{codes, option_and_then};
 ghost use Rattle.clap.specs.Words.{first_of, found_of, rows_of};
-ghost use Rattle.ht_asked.specs.Commands.{bred_of, budget_of, fault_of, random_of, seed_of};
+ghost use Rattle.ht_asked.specs.Commands.{bred_of, budget_of, fault_of, number_if, random_of, runs_of, seed_of, work_of};
 ghost use Rattle.ht_asked.specs.declared.limits.TheConstants as limit;
 ghost use Rattle.ht_asked.specs.Numbers.{number_in, number_or};
 ghost use Rattle.ht_words.specs.Jobs.{Hears};
@@ -10,8 +10,9 @@ use crate::job::WordsFault;
 use crate::value::given_text;
 use clap::ArgMatches;
 use ht_asked::{
-    DEFAULT_BRED, DEFAULT_BUDGET, DEFAULT_RANDOM, DEFAULT_SEED, MAX_BRED, MAX_BUDGET, MAX_FAULT,
-    MAX_RANDOM, MAX_SEED, MAX_SIZE, MIN_BUDGET, MIN_FAULT, MIN_SIZE,
+    DEFAULT_BRED, DEFAULT_BUDGET, DEFAULT_RANDOM, DEFAULT_SEED, DEFAULT_WORK, MAX_BRED, MAX_BUDGET,
+    MAX_FAULT, MAX_RANDOM, MAX_RUN, MAX_SEED, MAX_SIZE, MAX_WORK, MIN_BUDGET, MIN_FAULT, MIN_RUN,
+    MIN_SIZE, MIN_WORK,
 };
 
 /// The number that the text writes in the digits `0` to `9` and nothing else, where it is one from the least to the
@@ -96,6 +97,29 @@ pub fn seed(matches: &ArgMatches<'_>) -> Result<u64, WordsFault>
     number_or_default(matches, "seed", DEFAULT_SEED, 0, MAX_SEED)
 }
 
+/// The work of a full search.
+pub fn work(matches: &ArgMatches<'_>) -> Result<u64, WordsFault>
+    ensures { Hears (work_of (first_of (codes "work") (rows_of (found_of matches.now)))) result }
+{
+    number_or_default(matches, "work", DEFAULT_WORK, MIN_WORK, MAX_WORK)
+}
+
+// The number of an option, or none where it is left out.
+fn number_if_given(
+    matches: &ArgMatches<'_>,
+    id: &str,
+    least: u64,
+    most: u64,
+) -> Result<Option<u64>, WordsFault>
+    ensures { Hears (number_if least most (first_of id.now (rows_of (found_of matches.now))))
+        result }
+{
+    match given_text(matches, id) {
+        Some(text) => Ok(Some(read_number(text, least, most)?)),
+        None => Ok(None),
+    }
+}
+
 /// The number of a fault, if one is given.
 pub fn fault_number(matches: &ArgMatches<'_>) -> Result<Option<u32>, WordsFault>
     ensures { Hears (fault_of (first_of (codes "fault") (rows_of (found_of matches.now)))) result }
@@ -104,6 +128,13 @@ pub fn fault_number(matches: &ArgMatches<'_>) -> Result<Option<u32>, WordsFault>
         Some(text) => Ok(Some(read_number(text, MIN_FAULT, MAX_FAULT)? as u32)),
         None => Ok(None),
     }
+}
+
+/// The longest run of vectors that is left out at once, if it is given.
+pub fn runs(matches: &ArgMatches<'_>) -> Result<Option<u64>, WordsFault>
+    ensures { Hears (runs_of (first_of (codes "runs") (rows_of (found_of matches.now)))) result }
+{
+    number_if_given(matches, "runs", MIN_RUN, MAX_RUN)
 }
 
 /// The size of a demonstration netlist.

@@ -3,6 +3,7 @@
 
 mod check;
 mod commands;
+mod compact;
 mod failures;
 mod generate;
 mod limits;
@@ -38,6 +39,7 @@ const COMMANDS: &[&str] = &[
     proofs::PASSING,
     check::ROWS,
     commands::ROWS,
+    compact::ROWS,
     failures::ROWS,
 ];
 

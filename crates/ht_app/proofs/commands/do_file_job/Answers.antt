@@ -22,7 +22,7 @@ returns-in-Sim g c =
 pub returns-in-Compact : goal.returns-in-Compact
 returns-in-Compact g c =
     let kind = c.in-Compact in
-    ends_as kind.is (c.finish-in-Compact.ensures (asked_by (job_of.Compact kind.netlist kind.tests kind.out))
+    ends_as kind.is (c.finish-in-Compact.ensures (asked_by (job_of.Compact kind.netlist kind.tests kind.out kind.runs))
     (g.D.Desk.view c.args.desk.now) refl refl (c.compact-made.ensures kind.out))
 
 pub returns-in-Diagnose : goal.returns-in-Diagnose
@@ -41,14 +41,14 @@ returns-in-Uninit g c =
 -- each job that makes one file is of one of these kinds
 none_is_left : (job : Job)
     → ((netlist tests out : List ℕ) (start : Option (List ℕ)) → job ≡ job_of.Sim netlist tests out start → ⊥)
-    → ((netlist tests out : List ℕ) → job ≡ job_of.Compact netlist tests out → ⊥)
+    → ((netlist tests out : List ℕ) (runs : Option ℕ) → job ≡ job_of.Compact netlist tests out runs → ⊥)
     → ((netlist tests responses out : List ℕ) → job ≡ job_of.Diagnose netlist tests responses out → ⊥)
     → ((netlist out : List ℕ) (budget : ℕ) → job ≡ job_of.Uninit netlist out budget → ⊥)
     → MakesOneFile (asked_by job).command → ⊥
 none_is_left (job_of.Sim netlist tests out start) no_sim no_compact no_diagnose no_uninit one =
     no_sim netlist tests out start refl
-none_is_left (job_of.Compact netlist tests out) no_sim no_compact no_diagnose no_uninit one =
-    no_compact netlist tests out refl
+none_is_left (job_of.Compact netlist tests out runs) no_sim no_compact no_diagnose no_uninit one =
+    no_compact netlist tests out runs refl
 none_is_left (job_of.Diagnose netlist tests responses out) no_sim no_compact no_diagnose no_uninit one =
     no_diagnose netlist tests responses out refl
 none_is_left (job_of.Uninit netlist out budget) no_sim no_compact no_diagnose no_uninit one =

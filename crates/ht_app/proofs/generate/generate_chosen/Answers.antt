@@ -8,7 +8,8 @@ use Rattle.ht_words.specs.declared.job.Job.TheVariants as job_of
 use Rattle.ht_words.specs.declared.job.GenOptions.{GenOptions as Options}
 use Rattle.ht_files.proofs.PlainNameLaws.{plain_names}
 use Rattle.ht_app.proofs.Common.{Asked, DeskView, EndsJob, HasNetlist, HasReadTo, JobBasis, Rows, RunError, RunFiles}
-use Rattle.ht_app.proofs.Common.{Settings, Tern, WritesAll}
+use Rattle.ht_app.proofs.Common.{Settings, Tern}
+use Rattle.ht_app.specs.Generating.{WritesTo}
 use Rattle.ht_app.specs.Outputs.{search_of, settings_of}
 use Rattle.ht_app.proofs.EndLaws.{ends_unread}
 use Rattle.ht_app.proofs.PreparedLaws.{changes_read}
@@ -71,8 +72,8 @@ returns-in_err-chosen g c = λ before read.
 
 -- ---- the files are written
 
-pub run_engine-done-requires-clause-plain : goal.run_engine-done-requires-clause-plain
-run_engine-done-requires-clause-plain g c =
+pub run_search-done-requires-clause-plain : goal.run_search-done-requires-clause-plain
+run_search-done-requires-clause-plain g c =
     let has = c.requires.netlist in
     plain_names has.0 c.args.circuit.now has.1.stands
 
@@ -83,7 +84,7 @@ settings o start first chosen = record {
   random = o.random;
   seed = o.seed;
   weighted = o.weighted;
-  search = search_of o.deep;
+  search = search_of o.depth;
   start = start;
   first = first;
   chosen = chosen;
@@ -105,7 +106,8 @@ ends : (g : given.Over) (c : In_ok-chosen g) {before : DeskView}
     (told_settings : Settings)
     → told_settings ≡ settings c.args.options.now c.args.start.items c.args.first c.in_ok-chosen.chosen
     → (result : Result (Unit {0}) RunError) (b : DeskView)
-    → WritesAll c.args.files.now c.args.circuit.now told_settings result (g.D.Desk.view c.read_chosen.new.desk) b
+    → WritesTo c.args.options.now.depth c.args.options.now.work c.args.files.now c.args.circuit.now told_settings result
+    (g.D.Desk.view c.read_chosen.new.desk) b
     → EndsJob (job c.args.files.now c.args.options.now) result before b
 ends g c read told_settings are result b w =
     let f = c.args.files.now in
@@ -113,10 +115,11 @@ ends g c read told_settings are result b w =
     let reads = all_reads g c read in
     ends_files f options (changes_read reads) (accepts_all reads (no_more f options) c.requires.netlist
     c.requires.latches c.requires.widths) result
-    (subst (λ (s : Settings). WritesAll f c.args.circuit.now s result (g.D.Desk.view c.read_chosen.new.desk) b)
+    (subst (λ (s : Settings). WritesTo options.depth options.work f c.args.circuit.now s result
+    (g.D.Desk.view c.read_chosen.new.desk) b)
     (are ∙ are_settings g c) w)
 
 pub returns : goal.returns
 returns g c = λ before read. ends g (goal.at.returns g c).In_ok-chosen read c.settings_for-settings.result
-    c.settings_for-settings.ensures c.run_engine-done.result (g.D.Desk.view c.run_engine-done.new.desk)
-    c.run_engine-done.ensures
+    c.settings_for-settings.ensures c.run_search-done.result (g.D.Desk.view c.run_search-done.new.desk)
+    c.run_search-done.ensures

@@ -1,13 +1,15 @@
 use Rattle.std.proofs.Common.{[], rules}
-use Rattle.ht_engine.specs.Steps.{none}
-use Rattle.ht_app.proofs.GenLaws.{begun_acts, stops_in_steps}
+use Rattle.ht_app.specs.Outputs.{AreGenerated, IsGeneratedOf}
+use Rattle.ht_app.proofs.GenLaws.{begun_acts, no_steps, stops_in_steps}
 use Rattle.ht_app.proofs.WritingLaws.{runs_out_first}
 use Rattle.ht_app.proofs.generate.run_engine.Goals as goal
 
 pub returns-in_err-engine : goal.returns-in_err-engine
 returns-in_err-engine g c =
     let settings = c.args.settings.now in
-    let stops = stops_in_steps c.args.files.now c.args.circuit.now settings c.requires.classes none
+    let circuit = c.args.circuit.now in
+    let stops = stops_in_steps c.args.files.now settings (AreGenerated circuit settings)
+    (IsGeneratedOf circuit settings) (no_steps c.requires.classes)
     (runs_out_first (Unit {0}) (begun_acts c.args.files.now settings []) (g.D.Desk.view c.args.desk.now)) in
     search (rules, stops)
 

@@ -1,5 +1,5 @@
-use Rattle.std.proofs.Common.{◌≡◌, ◌≤◌, ◌<◌, ◌+◌, Bool, true, length, refl, ap, subst, sym, rules, arith}
-use Rattle.std.specs.Prelude.{None, Some, if◌then◌else◌}
+use Rattle.std.proofs.Common.{◌≡◌, ◌≤◌, ◌<◌, ◌+◌, ℕ, Bool, true, length, refl, ap, subst, sym, rules, arith}
+use Rattle.std.specs.Prelude.{None, Option, Some, if◌then◌else◌}
 use Rattle.ht_asked.specs.Table.{Kind, compact}
 use Rattle.ht_net.specs.Circuit.Netlist.{Netlist}
 use Rattle.ht_ports.specs.declared.ports.InPort.TheVariants.{Tests}
@@ -12,16 +12,18 @@ use Rattle.ht_inputs.proofs.ReadingLaws.{read_so, tests_stop}
 use Rattle.ht_inputs.proofs.vectors_file.read_few_tests.Goals as goal
 
 -- what takes few vectors judges no proofs
-not_judged : (kind : Kind) → takes_few kind ≡ true → (if judges kind then None else Some Tests) ≡ Some Tests
-not_judged compact few = refl
-not_judged kind few = cc
+not_judged : (kind : Kind) (runs : Option ℕ) → takes_few kind runs ≡ true
+    → (if judges kind then None else Some Tests) ≡ Some Tests
+not_judged compact runs few = refl
+not_judged kind runs few = cc
 
 pub returns-in_err-list-clause-stops : goal.returns-in_err-list-clause-stops
 returns-in_err-list-clause-stops g c = λ job basis few same.
     let a = g.D.Desk.view c.args.desk.now in
     let b = g.D.Desk.view c.read_tests.new.desk in
     let e = c.in_err-list.field-0.0 in
-    let stops = tests_stop job basis (MAX_COMPACTED + 1) c.args.name.now a b (λ line. not_judged job.command few)
+    let stops = tests_stop job basis (MAX_COMPACTED + 1) c.args.name.now a b
+    (λ line. not_judged job.command job.numbers.runs few)
     (λ line text early wrong. subst (λ (few : Bool). IsWrongTest few basis.circuit text line) (sym few)
     (record { malformed = wrong; early = early })) e
     (subst (λ (n : Netlist). TestsStop n (MAX_COMPACTED + 1) c.args.name.now a b e) (sym same)

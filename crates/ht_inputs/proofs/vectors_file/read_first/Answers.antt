@@ -27,7 +27,7 @@ module _ (job : Asked) (is_gen : job.command ≡ gen) {basis : JobBasis} {first 
       → IfOk result (λ list. basis.content.list ≡ list.list → HasReadTo job basis 3 first new)
   goes_on (Ok list) few read = λ is.
       one_more before (at_tests is_gen) reads call (before.netlist (omega arith)) (read_so (SaysBasis job basis Tests)
-      (λ text are. subst (λ (k : Kind). SaysVectors (takes_few k) basis text) (sym is_gen)
+      (λ text are. subst (λ (k : Kind). SaysVectors (takes_few k job.numbers.runs) basis text) (sym is_gen)
       (subst (λ (l : List (List Bool)). IsTestText basis.circuit text l) (sym is)
       (subst (λ (n : Netlist). IsTestText n text list.list) (sym same) (are.all (omega (arith, few)))))) read)
   goes_on (Err e) few read = tt
@@ -39,7 +39,8 @@ module _ (job : Asked) (is_gen : job.command ≡ gen) {basis : JobBasis} {first 
   stops fault (Err e) stop = stops_there before (at_tests is_gen) reads call (λ late. fault) e
       (tests_stop job basis (2 ^ 64 - 1) name old new
       (λ line. ap (λ (k : Kind). if judges k then None else Some Tests) is_gen)
-      (λ line text early. subst (λ (k : Kind). IsWrongTest (takes_few k) basis.circuit text line) (sym is_gen)) e
+      (λ line text early. subst (λ (k : Kind). IsWrongTest (takes_few k job.numbers.runs) basis.circuit text line)
+      (sym is_gen)) e
       (subst (λ (n : Netlist). TestsStop n (2 ^ 64 - 1) name old new e) (sym same) stop))
 
 pub returns-in-Some-clause-read : goal.returns-in-Some-clause-read

@@ -1,4 +1,4 @@
-//! The commands that need few rows: `demo`, `compact`, `diagnose`, `respond`, `breed`, `uninit` and `sync`.
+//! The commands that need few rows: `demo`, `diagnose`, `respond`, `breed`, `uninit` and `sync`.
 
 pub const ROWS: &str = "~run demo 16 3
 ~ends 0
@@ -7,54 +7,6 @@ total 84 detected 25 untestable 34 aborted 25
 ~none t
 ~none r
 ~none p
-~# `compact` leaves out the vectors that aren't needed
-~run compact n t r
-~given n < SHIFT_REGISTER
-~with t 0 vectors 6 kept 4
-1
-0
-0
-0
-0
-0
-~left r
-1
-0
-0
-0
-~with t 0 vectors 0 kept 0
-~left r
-~# the first vector is the last that is tried, so the last goes
-~run compact n t r
-~given n
-INPUT(a)
-OUTPUT(a)
-~with t 0 vectors 3 kept 2
-1
-0
-1
-~left r
-1
-0
-~run compact n t r
-~given n
-INPUT(a)
-~with t 0 vectors 2 kept 0
-1\r
-0~left r
-~# more than 4,096 vectors are too many, and no line after the first one too many is read
-~run compact n t r
-~given n < SHIFT_REGISTER
-~times 4096 t
-0
-~with t 9 tests: too many vectors
-0
-~none r
-~with t 9 tests: too many vectors
-1
-x
-~with t 7 tests: line 4097
-x
 ~# `diagnose` names the faults that explain what was observed
 ~run diagnose n t s r
 ~given n < SHIFT_REGISTER

@@ -1,7 +1,7 @@
 //! Words: the forms of each command, and words that have none.
 
 pub const ROWS: &str = "~text USAGE
-usage: sim NETLIST TESTS REPORT [--start FILE], gen NETLIST TESTS REPORT PROOFS [--budget N] [--random N] [--seed S] [--start FILE] [--first FILE] [--faults FILE] [--weighted N] [--search plain|deep], check NETLIST TESTS REPORT PROOFS [--start FILE], norm NETLIST OUT, demo SIZE SEED, compact NETLIST TESTS OUT, diagnose NETLIST TESTS RESPONSES OUT, uninit NETLIST OUT [--budget N], sync NETLIST TESTS OUT [--budget N], respond NETLIST TESTS OUT [--fault N] [--start FILE] [--lines], report NETLIST TESTS PROOFS REPORT [--budget N] [--start FILE], breed NETLIST TESTS OUT [--vectors N] [--seed S] [--start FILE], causes NETLIST TESTS OUT [--start FILE]
+usage: sim NETLIST TESTS REPORT [--start FILE], gen NETLIST TESTS REPORT PROOFS [--budget N] [--random N] [--seed S] [--start FILE] [--first FILE] [--faults FILE] [--weighted N] [--search plain|deep|full] [--work N], check NETLIST TESTS REPORT PROOFS [--start FILE], norm NETLIST OUT, demo SIZE SEED, compact NETLIST TESTS OUT [--runs N], diagnose NETLIST TESTS RESPONSES OUT, uninit NETLIST OUT [--budget N], sync NETLIST TESTS OUT [--budget N], respond NETLIST TESTS OUT [--fault N] [--start FILE] [--lines], report NETLIST TESTS PROOFS REPORT [--budget N] [--start FILE], breed NETLIST TESTS OUT [--vectors N] [--seed S] [--start FILE], causes NETLIST TESTS OUT [--start FILE]
 ~run
 ~given n < SHIFT_REGISTER
 ~given t
@@ -57,6 +57,9 @@ gen n t r p -- --budget 5
 gen n t r p --bud 5
 gen n t r p -b 5
 breed n t r --vectors 100001
+compact n t r --runs 65
+gen n t r p --work 0
+gen n t r p --search wide
 respond n t r --fault 0
 respond n t r --fault=655359
 respond n t r --lines=true
