@@ -12,9 +12,11 @@ ghost use Rattle.ht_full.specs.Searches.{IsChunkOrEnd, IsChunkOf, IsEnd, IsFullO
 use crate::bred::BredBlock;
 use crate::known::Known;
 use crate::limit::Limit;
+use crate::one_frame::OneFrameBlock;
 use crate::rails::RailsBlock;
 use crate::ran::Ran;
 use crate::sets::SetsBlock;
+use crate::targets::TargetsBlock;
 use ht_faults::{Classes, FaultList};
 use ht_net::{Circuit, Vectors};
 use ht_order::{Block, Chunk, Order, Rate};
@@ -31,6 +33,8 @@ pub struct FullSearch<'c> {
     order: Order,
     left: u64,
     bred: BredBlock,
+    one_frame: OneFrameBlock<'c>,
+    targets: TargetsBlock<'c>,
     sets: SetsBlock<'c>,
     rails: RailsBlock,
 }
@@ -88,6 +92,8 @@ impl<'c> FullSearch<'c> {
         ensures { IfOk result
             (IsFullOf circuit.now classes.now start.now given.now.list work) }
     {
+        let one_frame = OneFrameBlock::new(alloc, circuit, seed)?;
+        let targets = TargetsBlock::new(alloc, circuit, faults.len())?;
         let sets = SetsBlock::new(alloc, circuit, start)?;
         let rails = RailsBlock::new(alloc, circuit, faults.len())?;
         let known = known_of(alloc, circuit, faults, classes, start, given, seed)?;
@@ -96,6 +102,8 @@ impl<'c> FullSearch<'c> {
             order: Order::new(),
             left: work,
             bred: BredBlock::new(alloc),
+            one_frame,
+            targets,
             sets,
             rails,
         })
@@ -139,11 +147,12 @@ impl<'c> FullSearch<'c> {
     {
         match block {
             Block::Vectors => self.bred.run(&mut self.known, self.left),
+            Block::OneFrame => self.one_frame.run(&mut self.known, self.left),
+            Block::Targets => self.targets.run(&mut self.known, self.left),
             Block::Sets => self.sets.run(&mut self.known, self.left),
             Block::ShortRails => self.rails.run(&mut self.known, Limit::Short, self.left),
             Block::Rails => self.rails.run(&mut self.known, Limit::Middle, self.left),
             Block::LongRails => self.rails.run(&mut self.known, Limit::Long, self.left),
-            Block::OneFrame | Block::Targets => Ok(Ran::absent()),
         }
     }
 

@@ -5,6 +5,7 @@ ghost use Rattle.ht_faults.specs.Sites.{faults_of};
 ghost use Rattle.ht_faults.specs.Classes.{AreClasses, fault_at};
 ghost use Rattle.ht_sets.specs.Searches.{IsFamilyOf};
 ghost use Rattle.ht_close.specs.ClosedFaults.{ClosedHolds};
+ghost use Rattle.ht_tree.specs.Record.Refutations.{Refutes};
 ghost use Rattle.ht_verdicts.specs.Standing.{Decides};
 ghost use Rattle.ht_full.specs.Known.{AreOfOne, KnowsMore, IsKnownOf, IsStillOpen};
 
@@ -14,7 +15,7 @@ use ht_faults::{Classes, FaultList};
 use ht_items::Items;
 use ht_net::{Circuit, Fault, Vectors};
 use ht_tern::Tern;
-use ht_tree::{Entry, FamilyRow};
+use ht_tree::{Entry, FamilyRow, Token};
 use ht_verdicts::Verdicts;
 use std::alloc::{AllocError, Global};
 use std::marker::Model;
@@ -155,6 +156,20 @@ impl<'c> Known<'c> {
         count
     }
 
+    /// The faults that are open, rising.
+    ///
+    /// # Errors
+    /// Out of memory.
+    pub fn open_faults(&self) -> Result<Vec<u32>, AllocError> {
+        let mut open = Vec::new(self.alloc);
+        for fault in 0..self.classes.len() {
+            if self.is_open(fault) {
+                open.push(fault)?;
+            }
+        }
+        Ok(open)
+    }
+
     /// Whether bred vectors have nothing to look for: no fault is undetected and without an entry, or there are no inputs.
     pub fn are_bred(&self) -> bool {
         self.circuit.inputs() == 0 || self.bursts.are_done()
@@ -225,6 +240,17 @@ impl<'c> Known<'c> {
     {
         self.verdicts.enter(fault, entry);
         self.bursts.leave_out(fault);
+    }
+
+    /// Keeps a walk that refutes an open fault in one frame.
+    pub fn enter_walk(&mut self, fault: u32, z: Items<u32>, tokens: Items<Token>)
+        requires is_open { IsStillOpen self.old fault }
+        requires refutes { Refutes self.old.verdicts.circuit
+            (fault_at self.old.verdicts.circuit fault) z tokens }
+        ensures known { KnowsMore self.old self.new }
+        ensures same { AreOfOne self.old self.new }
+    {
+        self.enter(fault, Entry::Untestable { z, tokens });
     }
 
     /// Keeps a family that closes for an open fault.

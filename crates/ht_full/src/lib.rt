@@ -7,15 +7,15 @@
 //! says that passes. All limits are counts: the same arguments give the same verdicts on each machine, and each call
 //! returns.
 //!
-//! The blocks that are there are bred vectors, families of sets and rails with each of their three limits. Those of one
-//! frame and of targets are over as soon as they are asked, and left to be written.
-//!
 //! | Module | Holds |
 //! |---|---|
 //! | `known` | what was found so far, and the breeder that learns of it |
 //! | `ran` | what a chunk spent and brought |
+//! | `asked` | which faults were asked |
 //! | `bred` | the block of bred vectors |
 //! | `curve` | how detections rose in a chunk of bred vectors |
+//! | `one_frame` | the block of one frame |
+//! | `targets` | the block of targets |
 //! | `sets` | the block of families of sets |
 //! | `limit` | the limits of the blocks of rails |
 //! | `rails` | the blocks of rails |
@@ -23,14 +23,17 @@
 //! | `full` | the search |
 #![tactic(auto)]
 
+mod asked;
 mod bred;
 mod curve;
 mod full;
 mod known;
 mod limit;
+mod one_frame;
 mod rails;
 mod ran;
 mod sets;
 mod spread;
+mod targets;
 
 pub use full::{FullSearch, search};

@@ -2,9 +2,10 @@
 ghost use Rattle.std.specs.Prelude.{◌≡◌, ◌≤◌, IfOk, OnOk};
 ghost use Rattle.ht_full.specs.Known.{AreOfOne, KnowsMore, IsStillOpen};
 
+use crate::asked::Asked;
 use crate::known::Known;
 use crate::limit::Limit;
-use crate::ran::Ran;
+use crate::ran::{Asking, Ran};
 use crate::spread::spread;
 use ht_close::{Shared, close};
 use ht_net::Circuit;
@@ -25,15 +26,8 @@ pub struct RailsBlock {
     alloc: Global,
     shared: Shared,
     sizes: Sizes,
-    // the number of the greatest limit that each fault was asked with; 0 where it wasn't asked
-    asked: Vec<u8>,
-}
-
-// The work that is left after a chunk so far, and what it brought.
-#[derive(Clone, Copy)]
-struct Asking {
-    left: u64,
-    lists: bool,
+    // the number of the greatest limit that each fault was asked with
+    asked: Asked,
 }
 
 impl Sizes {
@@ -68,27 +62,8 @@ impl RailsBlock {
                 middle: Limit::Middle.least(),
                 long: Limit::Long.least(),
             },
-            asked: vec![in alloc; 0; faults as usize]?,
+            asked: Asked::new(alloc, faults)?,
         })
-    }
-
-    // Whether a fault wasn't asked with this limit, nor with a greater one.
-    fn is_unasked(&self, fault: u32, limit: Limit) -> bool {
-        match self.asked.get(fault as usize) {
-            Some(asked) => *asked < limit.number(),
-            None => false,
-        }
-    }
-
-    // The open faults that weren't asked.
-    fn unasked(&self, known: &Known, limit: Limit) -> Result<Vec<u32>, AllocError> {
-        let mut unasked = Vec::new(self.alloc);
-        for fault in 0..known.faults() {
-            if self.is_unasked(fault, limit) && known.is_open(fault) {
-                unasked.push(fault)?;
-            }
-        }
-        Ok(unasked)
     }
 
     // Asks for an open fault. Each literal that is propagated counts 2.
@@ -134,9 +109,7 @@ impl RailsBlock {
         ensures same { AreOfOne known.old known.new }
     {
         if left > 0 && known.is_open(fault) {
-            if let Some(asked) = self.asked.get_mut(fault as usize) {
-                *asked = limit.number();
-            }
+            self.asked.note(fault, limit.number());
             return self.ask(known, fault, limit, left);
         }
         Ok(Asking { left, lists: false })
@@ -185,7 +158,7 @@ impl RailsBlock {
         ensures known { OnOk result (KnowsMore known.old known.new) }
         ensures same { AreOfOne known.old known.new }
     {
-        let unasked = self.unasked(known, limit)?;
+        let unasked = self.asked.unasked(known, limit.number())?;
         let faults = spread(self.alloc, &unasked, self.sizes.get(limit))?;
         let before = known.open_count();
         let asking = self.ask_all(known, &faults, limit, left)?;

@@ -1,6 +1,4 @@
 //! What a chunk spent and brought.
-ghost use Rattle.std.specs.Prelude.{◌≡◌};
-
 use ht_order::Rate;
 
 /// What a chunk spent and brought, beside the classes that it decided.
@@ -16,16 +14,9 @@ pub struct Ran {
     pub done: bool,
 }
 
-impl Ran {
-    /// Of a block that isn't there.
-    pub fn absent() -> Ran
-        ensures { result.spent ≡ 0 }
-    {
-        Ran {
-            spent: 0,
-            late: None,
-            lists: false,
-            done: true,
-        }
-    }
+/// The work that is left after a chunk so far, and whether it found lists.
+#[derive(Clone, Copy)]
+pub struct Asking {
+    pub left: u64,
+    pub lists: bool,
 }
